@@ -5,6 +5,7 @@ use mathlib.Core.Logic.{_⊎_, inl, inr}
 use Prim.Native.Nat.{ℕ, _+_, _-_, _*_, _/_, _%_, _^_, _≤_, _<_, max}
 use native.Mathlib.Nat.{zero-add, div-lt-iff-lt-mul}
 use native.Mathlib.Omega.{arith}
+use base.Stored.{Coded, codedℕ, codedVia}
 use lib.Bits.{bitAnd, bitOr}
 use lib.Dec.{eqb, ltb}
 use lib.Pow.{shr-shr, pow-pos}
@@ -13,7 +14,7 @@ use Rattle.std.proofs.shelf.Tests.{cases-eq, cases-lt, eq-eqb, ne-eqb, eqb-true
 use Rattle.std.proofs.shelf.Ways.{tells}
 use Rattle.words.specs.declared.LatchSet.{LatchSet}
 use Rattle.words.specs.Bit.{bit, set?, All-clear, All-clear-from}
-use Rattle.words.specs.Sets.{has}
+use Rattle.words.specs.Sets.{has, no-latch, Empty}
 use Rattle.words.proofs.BitLaws.{bit-small, bit-of-zero, bit-ext, bit-past, bit-index, bit-or, bit-with-same, bit-with-other, bit-without-same, bit-without-other}
 
 -- a bit that is not set is clear
@@ -36,6 +37,14 @@ set-ext s t h = ap (λ (w : ℕ). record { word = w }) (bit-ext (s .word) (t .wo
               let z : bit (t .word) j ≡ 0 = absent-bit (t .word) j (sym (h j) ∙ ne-eqb (bit (s .word) j) 1 ne) in
               omega (arith, bit-small (s .word) j)
         ]
+
+-- two proofs that sets are equal are one
+pub set-coded : Coded LatchSet
+set-coded = codedVia codedℕ (λ (s : LatchSet). s .word) (λ s t e. ap (λ (w : ℕ). record { word = w }) e)
+
+-- the empty set has no member
+pub no-member : Empty no-latch
+no-member j = clear-absent 0 j (bit-of-zero j)
 
 -- no latch from 32 on
 pub none-past : (w j : ℕ) → w < 2 ^ 32 → 32 ≤ j → set? w j ≡ false

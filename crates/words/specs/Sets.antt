@@ -1,4 +1,5 @@
 -- What a word means as a set of latches. Assumes nothing.
+--   no-latch          the set with no latch
 --   has s i           latch i is in s
 --   has-with s i      the members of s and, if it is below 32, latch i
 --   has-without s i   the members of s but latch i
@@ -14,6 +15,10 @@ use Rattle.std.specs.Options.{Cases}
 use Rattle.std.specs.declared.option.Option.{Option}
 use Rattle.words.specs.declared.LatchSet.{LatchSet}
 use Rattle.words.specs.Bit.{set?}
+
+-- the set with no latch
+abbrev pub no-latch : LatchSet
+no-latch = record { word = 0 }
 
 -- latch i is in the set
 abbrev pub has : LatchSet → ℕ → Bool

@@ -1,0 +1,4 @@
+pub mod Copying
+pub mod Empty
+pub mod OneMore
+pub mod Sameness

@@ -1,0 +1,8 @@
+use borrow.Author.Needs.{needs}
+use Rattle.std.proofs.shelf.Equals.{matches-decides}
+use Rattle.std.proofs.shelf.Ways.{same-from-decides}
+use Rattle.format.proofs.Comparing.{same-decides}
+use Rattle.booktext.proofs.bytes.is_same.Needs as need
+
+pub returns : need.returns
+returns c = same-from-decides _ _ (matches-decides _ _ _ (c .eq .ensures)) (same-decides (c .args .a .now) (c .args .b .now))

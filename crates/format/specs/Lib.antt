@@ -1,0 +1,9 @@
+pub mod Bytes
+pub mod Contents
+pub mod Written
+pub mod Reader
+pub mod Values
+pub mod Reading
+pub mod Exactness
+pub mod Said
+pub mod Texts
