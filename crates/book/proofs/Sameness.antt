@@ -11,16 +11,15 @@ use base.Stored.{Coded, codedℕ, codedBool, coded×, codedVia}
 use denote.Struct.Props.{props}
 use lib.ListN.{length, getD, take}
 use Rattle.std.proofs.shelf.Lists.{length-take-le, getD-take, ext-getD}
-use Rattle.std.proofs.shelf.Tests.{cases-bool, cases-lt, cond-true, cond-false, false≢true}
-use Rattle.words.specs.declared.LatchSet.{LatchSet}
-use Rattle.words.specs.Sets.{has, Below}
+use Rattle.std.proofs.shelf.Tests.{cases-lt, false≢true}
+use Rattle.words.specs.Sets.{has, Below, most-latches}
 use Rattle.words.proofs.Members.{set-ext, set-coded}
 use Rattle.book.specs.declared.book.Book.{Book}
 use Rattle.book.specs.declared.errand.Errand.{Errand}
 use Rattle.book.specs.declared.moves.Move.{Move}
 use Rattle.book.specs.declared.name.Name.{Name}
 use Rattle.book.specs.declared.partial.PartialSetting.{PartialSetting}
-use Rattle.book.specs.Limits.{most-latches, most-moves}
+use Rattle.book.specs.Limits.{most-moves}
 use Rattle.book.specs.Names.{most-chars, name-chars, well-named, same}
 use Rattle.book.specs.Places.{name-of, name-at, move-at, no-move}
 use Rattle.book.specs.Settings.{asked}

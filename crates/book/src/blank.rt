@@ -2,7 +2,8 @@
 ghost use mathlib.Core.Path.{_≡_};
 ghost use mathlib.Core.List.{[], map};
 ghost use lib.ListN.{replicate};
-ghost use Rattle.book.specs.Limits.{most-latches, most-moves};
+ghost use Rattle.words.specs.Sets.{most-latches};
+ghost use Rattle.book.specs.Limits.{most-moves};
 ghost use Rattle.book.specs.Places.{name-of, no-move};
 use crate::book::Book;
 use crate::book::MOST_LATCHES;

@@ -4,15 +4,15 @@ ghost use mathlib.Core.Bool.{true, false};
 ghost use mathlib.Core.List.{[]};
 ghost use Prim.Native.Nat.{ℕ, _<_, _≤_};
 ghost use lib.ListN.{length};
-ghost use Rattle.words.specs.Sets.{Below};
-ghost use Rattle.book.specs.Limits.{most-latches, most-moves};
+ghost use Rattle.words.specs.Sets.{Below, most-latches};
+ghost use Rattle.book.specs.Limits.{most-moves};
 ghost use Rattle.book.specs.Names.{well-named, same};
 ghost use Rattle.book.specs.Places.{name-at, move-at, no-move};
 use crate::moves::Move;
 use crate::name::Name;
 
 /// The most latches of a book.
-pub const MOST_LATCHES: usize = 32;
+pub const MOST_LATCHES: usize = words::MOST_LATCHES as usize;
 
 /// The most moves of a book.
 pub const MOST_MOVES: usize = 128;

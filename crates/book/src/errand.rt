@@ -1,6 +1,5 @@
 //! Errands.
 ghost use mathlib.Core.Path.{_≡_};
-ghost use Prim.Native.Nat.{ℕ, _<_};
 ghost use Rattle.words.specs.Sets.{Below};
 use crate::book::Book;
 use crate::partial::PartialSetting;

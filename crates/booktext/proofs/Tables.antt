@@ -1,5 +1,5 @@
 -- Tables of names and of moves, filled place by place.
-use mathlib.Core.Path.{_≡_, sym, ap, subst, _∙_}
+use mathlib.Core.Path.{_≡_, ap, subst, _∙_}
 use mathlib.Core.List.{List, [], map}
 use mathlib.Core.Logic.{_≢_}
 use Prim.Native.Nat.{ℕ, _+_, _-_, _<_, _≤_}
@@ -8,11 +8,11 @@ use lib.Chars.{codes}
 use lib.ListN.{length, getD, set, take}
 use Rattle.std.proofs.shelf.Lists.{length-set, length-take-le, map-set, getD-set-other}
 use Rattle.words.specs.declared.LatchSet.{LatchSet}
-use Rattle.words.specs.Sets.{Below}
+use Rattle.words.specs.Sets.{Below, most-latches}
 use Rattle.book.specs.declared.moves.Move.{Move}
 use Rattle.book.specs.declared.name.Name.{Name}
-use Rattle.book.specs.Limits.{most-latches, most-moves}
-use Rattle.book.specs.Places.{name-of, name-at, move-at, no-move}
+use Rattle.book.specs.Limits.{most-moves}
+use Rattle.book.specs.Places.{name-of, no-move}
 use Rattle.format.specs.Reader.{Place, got, entry}
 use Rattle.format.specs.Reading.{latches}
 use Rattle.format.specs.Values.{number}

@@ -8,10 +8,10 @@ use mathlib.Core.Bool.{true, false}
 use mathlib.Core.List.{List, []}
 use Prim.Native.Nat.{ℕ, _<_, _≤_}
 use lib.ListN.{length}
-use Rattle.words.specs.Sets.{Below}
+use Rattle.words.specs.Sets.{Below, most-latches}
 use Rattle.book.specs.declared.moves.Move.{Move}
 use Rattle.book.specs.declared.name.Name.{Name}
-use Rattle.book.specs.Limits.{most-latches, most-moves}
+use Rattle.book.specs.Limits.{most-moves}
 use Rattle.book.specs.Names.{well-named, same}
 use Rattle.book.specs.Places.{name-at, move-at, no-move}
 

@@ -1,7 +1,6 @@
 //! Bytes: cutting at a separator, and comparing.
 ghost use mathlib.Core.Path.{_≡_};
 ghost use mathlib.Core.Option.{none, some};
-ghost use lib.ListN.{length};
 ghost use Rattle.std.specs.Options.{Cases};
 ghost use Rattle.book.specs.Names.{same};
 ghost use Rattle.format.specs.Bytes.{cut, strip};

@@ -1,12 +1,11 @@
 //! The lines of books and errands, one at a time.
 ghost use mathlib.Core.Path.{_≡_};
 ghost use mathlib.Core.List.{[], map};
-ghost use Prim.Native.Nat.{_<_, _≤_};
+ghost use Prim.Native.Nat.{_≤_};
 ghost use lib.Chars.{codes};
 ghost use lib.ListN.{length};
 ghost use Rattle.std.specs.Vec.{made};
-ghost use Rattle.words.specs.Sets.{Below};
-ghost use Rattle.book.specs.Limits.{most-latches};
+ghost use Rattle.words.specs.Sets.{Below, most-latches};
 ghost use Rattle.book.specs.Places.{name-of};
 ghost use Rattle.format.specs.Reader.{got, value as line-value, entry as line-entry};
 ghost use Rattle.format.specs.Said.{items-of, positions-of, Told};

@@ -2,12 +2,11 @@
 ghost use mathlib.Core.Path.{_≡_};
 ghost use mathlib.Core.List.{map};
 ghost use mathlib.Core.Option.{none, some};
-ghost use Prim.Native.Nat.{ℕ, _≤_, _<_};
+ghost use Prim.Native.Nat.{_≤_, _<_};
 ghost use lib.ListN.{length};
 ghost use Rattle.std.specs.Options.{Cases as BySome};
 ghost use Rattle.std.specs.Results.{Cases};
-ghost use Rattle.words.specs.Sets.{Below};
-ghost use Rattle.book.specs.Limits.{most-latches};
+ghost use Rattle.words.specs.Sets.{Below, most-latches};
 ghost use Rattle.book.specs.Places.{name-of};
 ghost use Rattle.format.specs.Bytes.{parts};
 ghost use Rattle.format.specs.Reader.{fine, wrong};

@@ -1,5 +1,5 @@
 //! The lines of a text, one after another.
-ghost use Prim.Native.Nat.{ℕ, _+_, _≤_};
+ghost use Prim.Native.Nat.{_+_, _≤_};
 ghost use denote.Ref.{now as held};
 ghost use lib.ListN.{length};
 ghost use Rattle.format.specs.Reading.{most-bytes};

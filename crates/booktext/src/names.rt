@@ -5,7 +5,7 @@ ghost use mathlib.Core.Option.{none, some};
 ghost use Prim.Native.Nat.{_≤_};
 ghost use lib.ListN.{length};
 ghost use Rattle.std.specs.Options.{Cases};
-ghost use Rattle.book.specs.Limits.{most-latches};
+ghost use Rattle.words.specs.Sets.{most-latches};
 ghost use Rattle.book.specs.Places.{name-of};
 ghost use Rattle.format.specs.Values.{find as found-at};
 use crate::bytes::is_same;

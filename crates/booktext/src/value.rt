@@ -1,11 +1,9 @@
 //! What the values of lines mean: numbers and positions.
 ghost use mathlib.Core.Path.{_≡_};
 ghost use mathlib.Core.List.{[]};
-ghost use Prim.Native.Nat.{ℕ, _<_, _≤_};
-ghost use lib.ListN.{length};
+ghost use Prim.Native.Nat.{_<_, _≤_};
 ghost use Rattle.std.specs.Options.{Cases};
-ghost use Rattle.words.specs.Sets.{Below};
-ghost use Rattle.book.specs.Limits.{most-latches};
+ghost use Rattle.words.specs.Sets.{Below, most-latches};
 ghost use Rattle.book.specs.Names.{same};
 ghost use Rattle.format.specs.declared.Fault.the-variants.{Value as Bad-value};
 ghost use Rattle.format.specs.Bytes.{decimal};

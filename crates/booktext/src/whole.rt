@@ -1,15 +1,18 @@
 //! Whole texts.
 ghost use mathlib.Core.Path.{_≡_};
-ghost use mathlib.Core.Bool.{true};
-ghost use Prim.Native.Nat.{_≤_};
-ghost use lib.Dec.{ltb};
+ghost use mathlib.Core.Bool.{true, false};
+ghost use mathlib.Core.List.{[]};
+ghost use Prim.Native.Nat.{_<_, _≤_};
+ghost use lib.Dec.{eqb, ltb};
 ghost use lib.ListN.{length};
+ghost use Rattle.std.specs.Results.{Cases};
 ghost use Rattle.std.specs.Vec.{made};
 ghost use Rattle.std.specs.declared.result.Result.the-variants.{Ok};
 ghost use Rattle.book.specs.declared.book.Book.{Book as Any-book};
 ghost use Rattle.book.specs.declared.errand.Errand.{Errand as Any-errand};
+ghost use Rattle.format.specs.declared.Fault.the-variants.{Line, Length};
 ghost use Rattle.format.specs.Reader.{got};
-ghost use Rattle.format.specs.Reading.{book as book-read, errand as errand-read, read-book, read-errand};
+ghost use Rattle.format.specs.Reading.{book as book-read, errand as errand-read, most-bytes, read-book, read-errand};
 ghost use Rattle.format.specs.Said.{contents, contents-of, errand-contents-of, reading-of, Told};
 ghost use Rattle.format.specs.Texts.{text-of, errand-text-of, Has-one-text};
 ghost use Rattle.booktext.specs.At.{at};
@@ -62,9 +65,10 @@ impl LineReader<'_> {
     }
 }
 
-/// Reads a whole text as a book.
-fn book_from(text: &[u8]) -> Result<Book, TextRefusal>
-    ensures { λ r. ⌜ reading-of contents-of r ≡ read-book (now (text .entry)) ⌝ }
+/// Refuses a text that is too long.
+fn within_limit(text: &[u8]) -> Result<(), TextRefusal>
+    ensures { λ r. ⌜ Cases r (λ _. length (now (text .entry)) ≤ most-bytes)
+        (λ e. (most-bytes < length (now (text .entry))) × ((e .fault ≡ Length) × (e .line ≡ 1))) ⌝ }
 {
     if text.len() > most_bytes() {
         return Err(TextRefusal {
@@ -72,44 +76,49 @@ fn book_from(text: &[u8]) -> Result<Book, TextRefusal>
             line: 1,
         });
     }
+    Ok(())
+}
+
+/// Refuses bytes behind the last line, at the line that they would be.
+fn ended(lines: &LineReader) -> Result<(), TextRefusal>
+    ensures { λ r. ⌜ Cases r (λ _. now (now (lines .entry) .rest) ≡ [])
+        (λ e. (eqb (length (now (now (lines .entry) .rest))) 0 ≡ false) × ((e .fault ≡ Line) × (e .line ≡ now (lines .entry) .line))) ⌝ }
+{
+    if lines.rest.is_empty() {
+        return Ok(());
+    }
+    Err(TextRefusal {
+        fault: Fault::Line,
+        line: lines.line,
+    })
+}
+
+/// Reads a whole text as a book.
+fn book_from(text: &[u8]) -> Result<Book, TextRefusal>
+    ensures { λ r. ⌜ reading-of contents-of r ≡ read-book (now (text .entry)) ⌝ }
+{
+    within_limit(text)?;
     let mut lines = LineReader {
         line: 1,
         rest: text,
     };
     let book = lines.book()?;
-    if lines.rest.is_empty() {
-        Ok(book)
-    } else {
-        Err(TextRefusal {
-            fault: Fault::Line,
-            line: lines.line,
-        })
-    }
+    ended(&lines)?;
+    Ok(book)
 }
 
 /// Reads a whole text as an errand.
 fn errand_from(text: &[u8]) -> Result<Errand, TextRefusal>
     ensures { λ r. ⌜ reading-of errand-contents-of r ≡ read-errand (now (text .entry)) ⌝ }
 {
-    if text.len() > most_bytes() {
-        return Err(TextRefusal {
-            fault: Fault::Length,
-            line: 1,
-        });
-    }
+    within_limit(text)?;
     let mut lines = LineReader {
         line: 1,
         rest: text,
     };
     let errand = lines.errand()?;
-    if lines.rest.is_empty() {
-        Ok(errand)
-    } else {
-        Err(TextRefusal {
-            fault: Fault::Line,
-            line: lines.line,
-        })
-    }
+    ended(&lines)?;
+    Ok(errand)
 }
 
 /// The book that a text says, or why the text is refused. Exactly the texts of books with a latch are accepted, and each gives the book

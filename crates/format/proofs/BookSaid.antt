@@ -1,22 +1,20 @@
 -- What a book says: its contents place by place, and that they are well formed.
-use mathlib.Core.Path.{_≡_, refl, sym, ap, subst, _∙_}
+use mathlib.Core.Path.{_≡_, sym, ap, subst, _∙_}
 use mathlib.Core.List.{List, [], _∷_, map}
-use mathlib.Core.Bool.{Bool, true, false}
-use Prim.Native.Nat.{ℕ, zero, suc, _<_, _≤_}
+use mathlib.Core.Bool.{true, false}
+use Prim.Native.Nat.{ℕ, suc, _<_, _≤_}
 use native.Mathlib.Omega.{arith}
 use lib.ListN.{length, getD, take}
-use Rattle.std.specs.shelf.Lists.{All}
 use Rattle.std.proofs.shelf.Elements.{all-from-getD}
 use Rattle.std.proofs.shelf.Lists.{length-map, length-take-le, getD-map, getD-take, take-map}
 use Rattle.std.proofs.shelf.Tests.{both-ways}
 use Rattle.book.specs.declared.book.Book.{Book}
 use Rattle.book.specs.declared.errand.Errand.{Errand}
-use Rattle.book.specs.declared.moves.Move.{Move}
 use Rattle.book.specs.declared.name.Name.{Name}
 use Rattle.book.specs.Names.{well-named, same}
 use Rattle.book.specs.Places.{name-of, name-at, move-at, no-move}
 use Rattle.format.specs.Bytes.{Bytes}
-use Rattle.format.specs.Contents.{Item, Rule, Distinct, Rising, Own, Well, Well-errand}
+use Rattle.format.specs.Contents.{Rule, Distinct, Rising, Own, Well, Well-errand}
 use Rattle.format.specs.Said.{rule-of, items-of, contents-of, errand-contents-of}
 use Rattle.format.proofs.Cutting.{same-from}
 use Rattle.format.proofs.ItemsSaid.{items-rise}

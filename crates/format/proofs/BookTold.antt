@@ -1,21 +1,20 @@
 -- A book is told by its contents, and an errand by its own.
 use mathlib.Core.Path.{_≡_, sym, ap, subst, _∙_}
 use mathlib.Core.List.{List, [], map}
-use mathlib.Core.Bool.{Bool, true, false}
+use mathlib.Core.Bool.{Bool, false}
 use mathlib.Core.Logic.{_⊎_, inl, inr}
 use Prim.Native.Nat.{ℕ, _<_, _≤_}
 use native.Mathlib.Omega.{arith}
-use lib.ListN.{length, getD, take}
+use lib.ListN.{length, getD}
 use Rattle.std.proofs.shelf.Lists.{ext-getD, length-map}
 use Rattle.std.proofs.shelf.Tests.{cases-lt, cases-bool}
 use Rattle.words.specs.declared.LatchSet.{LatchSet}
-use Rattle.words.specs.Sets.{has, Below}
+use Rattle.words.specs.Sets.{has, Below, most-latches}
 use Rattle.words.proofs.Members.{set-ext}
 use Rattle.book.specs.declared.book.Book.{Book}
 use Rattle.book.specs.declared.errand.Errand.{Errand}
 use Rattle.book.specs.declared.moves.Move.{Move}
 use Rattle.book.specs.declared.partial.PartialSetting.{PartialSetting}
-use Rattle.book.specs.Limits.{most-latches}
 use Rattle.book.specs.Places.{name-of, name-at, move-at, no-move}
 use Rattle.book.proofs.Sameness.{names-same, partial-tell, move-same, book-same, errand-same}
 use Rattle.format.specs.Contents.{Rule, Contents, Errand-contents}

@@ -1,8 +1,8 @@
 -- A move, a book and an errand from their lines.
-use mathlib.Core.Path.{_≡_, refl, sym, ap, _∙_}
+use mathlib.Core.Path.{_≡_, sym, ap, _∙_}
 use mathlib.Core.List.{List, [], map}
 use mathlib.Core.Bool.{Bool, true, false}
-use Prim.Native.Nat.{ℕ, suc, _-_, _<_, _≤_}
+use Prim.Native.Nat.{ℕ, _-_, _<_, _≤_}
 use native.Mathlib.Omega.{arith}
 use lib.Chars.{codes}
 use lib.ListN.{length, getD, take}
@@ -10,12 +10,13 @@ use Rattle.std.proofs.shelf.Elements.{all-getD}
 use Rattle.std.proofs.shelf.Lists.{length-map, length-take-le}
 use Rattle.book.specs.declared.book.Book.{Book}
 use Rattle.book.specs.declared.name.Name.{Name}
-use Rattle.book.specs.Limits.{most-latches, most-moves}
+use Rattle.words.specs.Sets.{most-latches}
+use Rattle.book.specs.Limits.{most-moves}
 use Rattle.book.specs.Names.{well-named, same}
 use Rattle.book.specs.Places.{name-of, name-at}
 use Rattle.format.specs.declared.Fault.{Fault}
 use Rattle.format.specs.Bytes.{Bytes}
-use Rattle.format.specs.Contents.{Item, Rule, Contents, Distinct}
+use Rattle.format.specs.Contents.{Item, Rule}
 use Rattle.format.specs.Reader.{Place, Outcome, got, refused, give, chain, _>>=_, entry}
 use Rattle.format.specs.Reading.{latches, rule, rules, book, errand}
 use Rattle.format.specs.Said.{contents-of}

@@ -1,7 +1,7 @@
 -- Comparing, cutting and stripping, as code does it and as the format says it.
 use mathlib.Core.Path.{_≡_, refl, sym, ap, _∙_}
 use mathlib.Core.List.{List, [], _∷_, _++_}
-use mathlib.Core.Bool.{Bool, true, false, not, _&&_}
+use mathlib.Core.Bool.{true, not}
 use mathlib.Core.Option.{Option, none, some}
 use Prim.Native.Nat.{ℕ, _+_, _-_, _<_, _≤_}
 use borrow.Author.Needs.{needs}
@@ -15,10 +15,10 @@ use Rattle.std.specs.declared.option.Option.the-variants.{Some, None}
 use Rattle.std.specs.declared.option.Option as rust
 use Rattle.std.proofs.shelf.Equals.{compares-decides}
 use Rattle.std.proofs.shelf.Lists.{take-more, take-append-drop, drop-more, take-all, take-rest}
-use Rattle.std.proofs.shelf.Tests.{eqb-true, ne-eqb, and-from, and-parts, not-from-false, not-true, cond-false}
+use Rattle.std.proofs.shelf.Tests.{ne-eqb, and-from, and-parts, not-from-false, not-true, cond-false}
 use Rattle.book.specs.Names.{same}
 use Rattle.format.specs.Bytes.{Bytes, cut, further, strip}
-use Rattle.format.proofs.Cutting.{free, free-append, cut-at, strip-some, strip-at, none≢some}
+use Rattle.format.proofs.Cutting.{free, free-append, cut-at, strip-some, strip-at}
 
 pub same-decides : (xs ys : Bytes) → Decides (same xs ys) (xs ≡ ys)
 same-decides xs ys = compares-decides same (search needs) xs ys

@@ -1,8 +1,8 @@
 -- The text of a well-formed contents is read, and says that contents.
 use mathlib.Core.Path.{_≡_, refl, sym, ap, subst, _∙_}
 use mathlib.Core.List.{List, [], _∷_, _++_, map}
-use mathlib.Core.Bool.{Bool, true, false, cond}
-use Prim.Native.Nat.{ℕ, zero, suc, _≤_, _<_}
+use mathlib.Core.Bool.{true}
+use Prim.Native.Nat.{ℕ, suc, _≤_}
 use native.Mathlib.Omega.{arith}
 use lib.Chars.{codes}
 use lib.Dec.{ltb}
@@ -13,11 +13,11 @@ use Rattle.std.proofs.shelf.Lists.{append-nil, append-assoc}
 use Rattle.std.proofs.shelf.Tests.{le-ltb, cond-false}
 use Rattle.format.specs.Bytes.{Bytes, decimal}
 use Rattle.book.specs.Names.{well-named}
-use Rattle.format.specs.Contents.{Item, Rule, Contents, Errand-contents, Distinct, Rising, Own, Well, Well-errand}
+use Rattle.format.specs.Contents.{Rule, Contents, Errand-contents, Distinct, Own, Well, Well-errand}
 use Rattle.format.specs.Written.{line, digit, list-text, latch-lines, rule-lines, book-lines, errand-lines}
-use Rattle.format.specs.Reader.{Place, Outcome, got, refused, Reader, Judged, fine, wrong, give, chain, _>>=_, entry}
-use Rattle.format.specs.Values.{only, number, position, find, new-name, latch, found, item-list, positions}
-use Rattle.format.specs.Reading.{latches, rule, rules, book, errand, Reading, accepted, declined, closed, whole}
+use Rattle.format.specs.Reader.{got, Reader, Judged, fine, give, _>>=_, entry}
+use Rattle.format.specs.Values.{only, number, position, new-name, latch, found, item-list, positions}
+use Rattle.format.specs.Reading.{latches, rule, rules, book, errand, accepted, closed, whole}
 use Rattle.format.proofs.Cutting.{free}
 use Rattle.format.proofs.Steps.{chain-from, entry-at}
 use Rattle.format.proofs.Finding.{find-new, find-at, distinct-mid}

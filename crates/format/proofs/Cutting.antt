@@ -3,15 +3,15 @@ use mathlib.Core.Path.{_≡_, refl, sym, ap, _∙_}
 use mathlib.Core.List.{List, [], _∷_, _++_}
 use mathlib.Core.Bool.{Bool, true, false, cond, not, _&&_}
 use mathlib.Core.Option.{Option, none, some}
-use Prim.Native.Nat.{ℕ, suc}
+use Prim.Native.Nat.{ℕ}
 use native.Mathlib.Omega.{arith}
 use lib.Dec.{eqb}
 use lib.ListN.{length}
 use Rattle.std.specs.shelf.Lists.{All}
 use Rattle.std.proofs.shelf.Lists.{append-nil}
-use Rattle.std.proofs.shelf.Tests.{eqb-true, eq-eqb, ne-eqb, eqb-false, and-parts, and-from, both-ways, not-true, not-from-false, cond-true, cond-false}
+use Rattle.std.proofs.shelf.Tests.{eqb-true, eq-eqb, and-parts, and-from, both-ways, not-true, not-from-false, cond-true, cond-false}
 use Rattle.book.specs.Names.{same}
-use Rattle.format.specs.Bytes.{Bytes, cut, further, strip, parts, longer, joined, joined-on}
+use Rattle.format.specs.Bytes.{Bytes, cut, further, strip, parts, longer, joined}
 
 pub none≢some : {A : Type 0} {x : A} → none ≡ some x → ⊥
 none≢some {A} h = let is : Option A → Bool = elim [ none ↦ false | some y ↦ true ] in both-ways false refl (ap is h)

@@ -1,7 +1,7 @@
 -- The reader of a list of items accepts exactly what is written for one.
 use mathlib.Core.Path.{_≡_, refl, sym, ap, subst, _∙_}
 use mathlib.Core.List.{List, [], _∷_, _++_, map}
-use mathlib.Core.Bool.{Bool, true, false, cond, not, _&&_}
+use mathlib.Core.Bool.{Bool, true, false, cond, not}
 use mathlib.Core.Option.{Option, none, some}
 use Prim.Native.Nat.{ℕ, suc, _+_, _-_, _<_, _≤_}
 use native.Mathlib.Omega.{arith}
@@ -20,7 +20,7 @@ use Rattle.format.specs.Contents.{Item, Distinct, Rising}
 use Rattle.format.specs.Written.{digit, item-text, list-text}
 use Rattle.format.specs.Reader.{Judged, fine, wrong}
 use Rattle.format.specs.Values.{find, ending, risen, with-ending, item, followed, items, item-list}
-use Rattle.format.proofs.Cutting.{none≢some, some-same, cons≢nil, same-true, free, free-append, joined-parts, parts-joined}
+use Rattle.format.proofs.Cutting.{none≢some, some-same, same-true, free, free-append, joined-parts, parts-joined}
 use Rattle.format.proofs.Steps.{wrong≢fine, fine-same, cond-fine}
 use Rattle.format.proofs.Finding.{find-some, find-at}
 use Rattle.format.proofs.Plain.{free-name, named-parts}

@@ -2,17 +2,16 @@
 use mathlib.Core.Path.{_≡_, refl, sym, ap, subst, _∙_}
 use mathlib.Core.List.{List, [], _∷_, _++_}
 use mathlib.Core.Bool.{Bool, true, false, cond, _&&_}
-use mathlib.Core.Logic.{_≢_, _⊎_, inl, inr}
+use mathlib.Core.Logic.{_⊎_, inl, inr}
 use mathlib.Core.Option.{Option, none, some}
 use Prim.Native.Nat.{ℕ, zero, suc, _+_, _-_, _<_, _≤_}
 use native.Mathlib.Nat.{zero-add}
 use native.Mathlib.Omega.{arith}
 use lib.Dec.{eqb, ltb}
 use Rattle.std.proofs.shelf.Lists.{append-nil}
-use Rattle.std.proofs.shelf.Tests.{cases-eq, cases-lt, cases-bool, both-ways, eq-eqb, ne-eqb, lt-ltb, and-from, and-left, cond-true, cond-false}
-use Rattle.words.specs.Sets.{has, Empty, Below}
+use Rattle.std.proofs.shelf.Tests.{cases-lt, cases-bool, both-ways, eq-eqb, ne-eqb, lt-ltb, and-from, and-left, cond-true, cond-false}
+use Rattle.words.specs.Sets.{has, Empty, Below, most-latches}
 use Rattle.book.specs.declared.partial.PartialSetting.{PartialSetting}
-use Rattle.book.specs.Limits.{most-latches}
 use Rattle.book.specs.Settings.{asked, asked-with}
 use Rattle.format.specs.Contents.{Item, Rising}
 use Rattle.format.specs.Said.{item-at, items-below, items-of, Unasked-from}

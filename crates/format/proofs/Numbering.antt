@@ -1,8 +1,8 @@
 -- Numbers in decimal, as code reads them.
 use mathlib.Core.Path.{_≡_, refl, sym, ap, _∙_}
-use mathlib.Core.List.{List, [], _∷_}
+use mathlib.Core.List.{[]}
 use mathlib.Core.Bool.{Bool, true, false, cond, _&&_}
-use mathlib.Core.Logic.{_⊎_, inl, inr}
+use mathlib.Core.Logic.{_⊎_}
 use Prim.Native.Nat.{ℕ, zero, suc, _+_, _-_, _*_, _^_, _<_, _≤_}
 use native.Mathlib.Omega.{arith}
 use native.Mathlib.Nat.{pow-suc}
@@ -10,7 +10,7 @@ use native.Mathlib.Numerals.{add-one}
 use lib.Dec.{leb}
 use lib.ListN.{length, getD, drop}
 use Rattle.std.proofs.shelf.Lists.{at-drop-more, at-drop-all}
-use Rattle.std.proofs.shelf.Tests.{and-from, and-left, and-right, lt-leb, le-leb, both-ways, cond-true, cond-false}
+use Rattle.std.proofs.shelf.Tests.{and-from, and-left, and-right, lt-leb, le-leb, cond-true, cond-false}
 use Rattle.format.specs.declared.Fault.the-variants.{Value}
 use Rattle.book.specs.Names.{same}
 use Rattle.format.specs.Bytes.{Bytes, decimal, worth}

@@ -4,22 +4,21 @@ use mathlib.Core.List.{List, [], _∷_, _++_, map}
 use mathlib.Core.Bool.{Bool, true, false, cond, not, _&&_, _||_}
 use mathlib.Core.Logic.{_⊎_, inl, inr}
 use mathlib.Core.Option.{Option, none, some}
-use Prim.Native.Nat.{ℕ, suc, _+_, _-_, _*_, _/_, _%_, _<_, _≤_}
+use Prim.Native.Nat.{ℕ, _+_, _/_, _%_, _<_, _≤_}
 use native.Mathlib.Omega.{arith}
 use lib.Chars.{codes}
 use lib.Dec.{eqb, leb, ltb}
 use lib.ListN.{length, getD}
 use Rattle.std.proofs.shelf.Lists.{append-nil, append-assoc}
-use Rattle.std.proofs.shelf.Tests.{eqb-true, eq-eqb, ne-eqb, leb-true, le-leb, lt-ltb, le-ltb, and-parts, and-from, or-cases, both-ways, cases-lt, not-from-false, cond-true, cond-false}
-use Rattle.format.specs.declared.Fault.{Fault}
+use Rattle.std.proofs.shelf.Tests.{eqb-true, eq-eqb, ne-eqb, leb-true, le-leb, lt-ltb, le-ltb, and-parts, and-from, or-cases, cases-lt, not-from-false, cond-true, cond-false}
 use Rattle.format.specs.declared.Fault.the-variants.{Value, Name}
 use Rattle.book.specs.Names.{same}
 use Rattle.format.specs.Bytes.{Bytes, decimal, worth}
 use Rattle.book.specs.Names.{name-char, name-chars, well-named}
 use Rattle.format.specs.Written.{digit}
-use Rattle.format.specs.Reader.{Judged, fine, wrong}
+use Rattle.format.specs.Reader.{fine, wrong}
 use Rattle.format.specs.Values.{only, number, position, find, unless-taken, new-name, found, latch, counted, positions}
-use Rattle.format.proofs.Cutting.{same-true, same-refl, free, free-append}
+use Rattle.format.proofs.Cutting.{same-true, same-refl, free}
 use Rattle.format.proofs.Steps.{wrong≢fine, fine-same, cond-fine}
 use Rattle.format.proofs.Finding.{find-some}
 

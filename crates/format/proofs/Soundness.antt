@@ -2,8 +2,8 @@
 use mathlib.Core.Path.{_≡_, refl, sym, ap, subst, _∙_}
 use mathlib.Core.List.{List, [], _∷_, _++_, map}
 use mathlib.Core.Bool.{Bool, true, false, cond}
-use mathlib.Core.Option.{Option, none, some}
-use Prim.Native.Nat.{ℕ, zero, suc, _≤_, _<_}
+use mathlib.Core.Option.{none}
+use Prim.Native.Nat.{ℕ, zero, suc, _≤_}
 use lib.Chars.{codes}
 use lib.Dec.{ltb}
 use lib.ListN.{length, getD}
@@ -15,9 +15,9 @@ use Rattle.format.specs.declared.Fault.{Fault}
 use Rattle.format.specs.declared.Fault.the-variants.{Length}
 use Rattle.format.specs.Bytes.{Bytes, decimal}
 use Rattle.book.specs.Names.{well-named}
-use Rattle.format.specs.Contents.{Item, Rule, Contents, Errand-contents, Distinct, Rising, Own, Well, Well-errand}
-use Rattle.format.specs.Written.{line, digit, list-text, latch-lines, rule-lines, book-lines, book-text, errand-lines, errand-text}
-use Rattle.format.specs.Reader.{Place, Outcome, got, refused, Reader, Judged, fine, wrong, give, chain, _>>=_, entry}
+use Rattle.format.specs.Contents.{Rule, Contents, Errand-contents, Distinct, Own, Well, Well-errand}
+use Rattle.format.specs.Written.{line, digit, latch-lines, rule-lines, book-lines, book-text, errand-lines, errand-text}
+use Rattle.format.specs.Reader.{Place, Outcome, got, refused, Reader, give, _>>=_, entry}
 use Rattle.format.specs.Values.{only, number, position, find, new-name, latch, item-list, positions}
 use Rattle.format.specs.Reading.{latches, rule, rules, book, errand, Reading, accepted, declined, at-end, closed, whole, read-book, read-errand}
 use Rattle.format.proofs.Steps.{got-same, chain-got, entry-got}

@@ -9,13 +9,13 @@ use native.Mathlib.Numerals.{add-one}
 use lib.Dec.{eqb, ltb}
 use lib.ListN.{length, getD, drop}
 use Rattle.std.proofs.shelf.Lists.{at-drop-more, at-drop-all, length-append, length-map, getD-append-left, getD-push}
-use Rattle.std.proofs.shelf.Tests.{cases-bool, cases-eq, cases-lt, both-ways, eqb-true, eq-eqb, ne-eqb, lt-ltb, and-from, and-left, or-right, cond-true, cond-false}
+use Rattle.std.proofs.shelf.Tests.{cases-bool, cases-eq, cases-lt, both-ways, eq-eqb, ne-eqb, lt-ltb, and-from, and-left, or-right, cond-true, cond-false}
 use Rattle.words.specs.declared.LatchSet.{LatchSet}
 use Rattle.words.specs.Sets.{has, has-with, no-latch, Below}
 use Rattle.words.proofs.Members.{no-member}
 use Rattle.format.specs.declared.Fault.the-variants.{Value}
 use Rattle.format.specs.Bytes.{Bytes}
-use Rattle.format.specs.Reader.{Judged, fine, wrong}
+use Rattle.format.specs.Reader.{fine, wrong}
 use Rattle.format.specs.Values.{positions, counted}
 use Rattle.format.specs.Written.{digit}
 use Rattle.format.specs.Said.{positions-of}

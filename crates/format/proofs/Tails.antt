@@ -1,11 +1,11 @@
 -- What is left of reading a book behind each of its parts, and of an errand.
-use mathlib.Core.List.{List, [], _∷_}
+use mathlib.Core.List.{List, []}
 use Prim.Native.Nat.{ℕ}
 use lib.Chars.{codes}
 use lib.ListN.{length}
 use mathlib.Core.Bool.{Bool}
 use Rattle.format.specs.Bytes.{Bytes}
-use Rattle.format.specs.Contents.{Item, Rule, Contents, Errand-contents}
+use Rattle.format.specs.Contents.{Contents, Errand-contents}
 use Rattle.format.specs.Reader.{Reader, give, _>>=_, entry}
 use Rattle.format.specs.Values.{number, item-list, positions}
 use Rattle.format.specs.Reading.{latches, rules}

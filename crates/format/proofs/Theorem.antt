@@ -1,9 +1,8 @@
 -- The theorem from its parts: sound, complete, short.
-use mathlib.Core.Path.{_≡_, refl, sym, ap, _∙_}
-use mathlib.Core.List.{List, []}
-use Rattle.format.specs.Bytes.{Bytes}
-use Rattle.format.specs.Contents.{Contents, Well, Errand-contents, Well-errand}
-use Rattle.format.specs.Written.{book-lines, book-text, errand-lines, errand-text}
+use mathlib.Core.Path.{_≡_, sym, ap, _∙_}
+use mathlib.Core.List.{[]}
+use Rattle.format.specs.Contents.{Contents, Well}
+use Rattle.format.specs.Written.{book-lines, book-text, errand-lines}
 use Rattle.format.specs.Reading.{Reading, accepted, declined, book, errand, read-book, read-errand}
 use Rattle.format.specs.Exactness.{Exact, One-text, Exact-errands}
 use Rattle.format.proofs.Soundness.{book-sound, errand-sound}

@@ -7,7 +7,7 @@
 --   decimal n        a number below 1000 in decimal, with no leading zero
 --   worth n v        what the digits v are worth behind digits that are worth n
 use mathlib.Core.List.{List, [], _∷_, _++_}
-use mathlib.Core.Bool.{Bool, true, false, cond}
+use mathlib.Core.Bool.{cond}
 use mathlib.Core.Option.{Option, none, some}
 use Prim.Native.Nat.{ℕ, _+_, _-_, _*_, _/_, _%_}
 use lib.Dec.{eqb, ltb}

@@ -14,7 +14,8 @@ use mathlib.Core.Bool.{Bool, true}
 use Prim.Native.Nat.{ℕ, suc, _≤_, _<_}
 use lib.ListN.{length}
 use Rattle.std.specs.shelf.Lists.{All}
-use Rattle.book.specs.Limits.{most-latches, most-moves}
+use Rattle.words.specs.Sets.{most-latches}
+use Rattle.book.specs.Limits.{most-moves}
 use Rattle.book.specs.Names.{well-named}
 use Rattle.format.specs.Bytes.{Bytes}
 

@@ -7,7 +7,7 @@
 --   m >>= f           m and then, with its value, f
 --   value key         the value of the next line, which has this key
 --   entry key judge   the same, judged
-use mathlib.Core.List.{List, [], _∷_}
+use mathlib.Core.List.{[]}
 use mathlib.Core.Option.{Option, none, some}
 use Prim.Native.Nat.{ℕ, suc}
 use Rattle.format.specs.declared.Fault.{Fault}

@@ -10,17 +10,18 @@
 --   read-errand t        the same as the text of an errand
 --   fault-number k       the number of the fault k
 use mathlib.Core.List.{List, [], _∷_, _++_}
-use mathlib.Core.Bool.{Bool, cond}
+use mathlib.Core.Bool.{cond}
 use Prim.Native.Nat.{ℕ, zero, suc}
 use lib.Chars.{codes}
 use lib.Dec.{ltb}
 use lib.ListN.{length}
 use Rattle.format.specs.declared.Fault.{Fault}
 use Rattle.format.specs.declared.Fault.the-variants.{Line, Value, Name, Latch, Item as Bad-item, Length}
-use Rattle.book.specs.Limits.{most-latches, most-moves}
+use Rattle.words.specs.Sets.{most-latches}
+use Rattle.book.specs.Limits.{most-moves}
 use Rattle.format.specs.Bytes.{Bytes}
-use Rattle.format.specs.Contents.{Item, Rule, Contents, Errand-contents}
-use Rattle.format.specs.Reader.{Place, Outcome, got, refused, Reader, give, chain, _>>=_, entry}
+use Rattle.format.specs.Contents.{Rule, Contents, Errand-contents}
+use Rattle.format.specs.Reader.{Outcome, got, refused, Reader, give, _>>=_, entry}
 use Rattle.format.specs.Values.{only, number, position, new-name, latch, item-list, positions}
 
 -- n lines of latches, behind the names read so far

@@ -18,13 +18,12 @@ use Rattle.std.specs.declared.result.Result.{Result}
 use Rattle.std.specs.declared.result.Result.the-variants.{Ok, Err}
 use Rattle.std.specs.Results.{Cases}
 use Rattle.words.specs.declared.LatchSet.{LatchSet}
-use Rattle.words.specs.Sets.{has}
+use Rattle.words.specs.Sets.{has, most-latches}
 use Rattle.book.specs.declared.book.Book.{Book}
 use Rattle.book.specs.declared.errand.Errand.{Errand}
 use Rattle.book.specs.declared.moves.Move.{Move}
 use Rattle.book.specs.declared.name.Name.{Name}
 use Rattle.book.specs.declared.partial.PartialSetting.{PartialSetting}
-use Rattle.book.specs.Limits.{most-latches}
 use Rattle.book.specs.Settings.{asked}
 use Rattle.book.specs.Places.{name-of}
 use Rattle.format.specs.declared.TextRefusal.{TextRefusal}

@@ -1,10 +1,10 @@
 -- The laws of `bit`: of |, &, of a single bit 2 ^ i, extensionality, and of the lowest set bit.
 use mathlib.Core.Path.{_≡_, refl, sym, ap, _∙_}
-use mathlib.Core.Logic.{_≢_, _⊎_, inl, inr}
-use Prim.Native.Nat.{ℕ, zero, suc, _+_, _-_, _*_, _/_, _%_, _^_, _≤_, _<_, min, max}
+use mathlib.Core.Logic.{_≢_, _⊎_}
+use Prim.Native.Nat.{ℕ, zero, suc, _+_, _-_, _/_, _%_, _^_, _≤_, _<_, min, max}
 use native.Mathlib.Omega.{arith}
-use native.Mathlib.Nat.{pow-suc, div-eq-of-lt, mul-one, one-mul, lt-of-lt-of-le, not-suc-le-zero}
-use native.Mathlib.Numerals.{one-add, add-one}
+use native.Mathlib.Nat.{pow-suc, div-eq-of-lt, one-mul, lt-of-lt-of-le, not-suc-le-zero}
+use native.Mathlib.Numerals.{one-add}
 use lib.Bits.{bitAnd, bitOr, bitXor, and-step, or-step, and-shr, or-shr, xor-shr, xor-add-and}
 use lib.Count.{trailingZeros, under}
 use native.Mathlib.Decide.{decLt}

@@ -3,14 +3,14 @@ use mathlib.Core.Path.{_≡_, sym, ap, _∙_}
 use mathlib.Core.Bool.{Bool, true, false, not, _&&_, _||_}
 use mathlib.Core.Logic.{_⊎_, inl, inr}
 use Prim.Native.Nat.{ℕ, _+_, _-_, _*_, _/_, _%_, _^_, _≤_, _<_, max}
-use native.Mathlib.Nat.{zero-add, div-lt-iff-lt-mul}
+use native.Mathlib.Nat.{div-lt-iff-lt-mul}
 use native.Mathlib.Omega.{arith}
 use base.Stored.{Coded, codedℕ, codedVia}
 use lib.Bits.{bitAnd, bitOr}
 use lib.Dec.{eqb, ltb}
 use lib.Pow.{shr-shr, pow-pos}
 use Rattle.std.specs.Orderings.{Decides}
-use Rattle.std.proofs.shelf.Tests.{cases-eq, cases-lt, eq-eqb, ne-eqb, eqb-true, eqb-false, lt-ltb, le-ltb, or-left, or-right, or-from, and-from, and-left, and-right, not-from-true, not-from-false}
+use Rattle.std.proofs.shelf.Tests.{cases-eq, eq-eqb, ne-eqb, eqb-true, eqb-false, lt-ltb, le-ltb, or-right, and-from, and-left, and-right, not-from-true, not-from-false}
 use Rattle.std.proofs.shelf.Ways.{tells}
 use Rattle.words.specs.declared.LatchSet.{LatchSet}
 use Rattle.words.specs.Bit.{bit, set?, All-clear, All-clear-from}

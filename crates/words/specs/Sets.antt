@@ -1,7 +1,8 @@
 -- What a word means as a set of latches. Assumes nothing.
+--   most-latches      how many latches there can be
 --   no-latch          the set with no latch
 --   has s i           latch i is in s
---   has-with s i      the members of s and, if it is below 32, latch i
+--   has-with s i      the members of s and, if there can be such a latch, latch i
 --   has-without s i   the members of s but latch i
 --   has-either s t    the members of s and of t
 --   Empty s           no latch is in s
@@ -16,6 +17,10 @@ use Rattle.std.specs.declared.option.Option.{Option}
 use Rattle.words.specs.declared.LatchSet.{LatchSet}
 use Rattle.words.specs.Bit.{set?}
 
+-- how many latches there can be: a set has latches 0 to 31
+abbrev pub most-latches : ℕ
+most-latches = 32
+
 -- the set with no latch
 abbrev pub no-latch : LatchSet
 no-latch = record { word = 0 }
@@ -24,9 +29,9 @@ no-latch = record { word = 0 }
 abbrev pub has : LatchSet → ℕ → Bool
 has s i = set? (s .word) i
 
--- latch j is in the set with latch i; no set has a latch from 32 on
+-- latch j is in the set with latch i; no set has a latch beyond the most
 abbrev pub has-with : LatchSet → ℕ → ℕ → Bool
-has-with s i j = has s j || (eqb j i && ltb i 32)
+has-with s i j = has s j || (eqb j i && ltb i most-latches)
 
 -- latch j is in the set without latch i
 abbrev pub has-without : LatchSet → ℕ → ℕ → Bool

@@ -1,10 +1,10 @@
 //! Single bits of a 32-bit word, numbered from the lowest.
 ghost use mathlib.Core.Path.{_≡_};
-ghost use mathlib.Core.Bool.{false, not, _&&_, _||_};
+ghost use mathlib.Core.Bool.{not, _&&_, _||_};
 ghost use Prim.Native.Nat.{ℕ, _<_};
 ghost use lib.Dec.{eqb, ltb};
 ghost use Rattle.std.specs.Orderings.{Decides};
-ghost use Rattle.words.specs.Bit.{bit, set?, All-clear, All-clear-from, Lowest-bit};
+ghost use Rattle.words.specs.Bit.{set?, All-clear, All-clear-from, Lowest-bit};
 
 /// Whether bit `i` is set.
 pub(crate) fn test(word: u32, i: u8) -> bool

@@ -6,6 +6,9 @@ ghost use Prim.Native.Nat.{ℕ};
 ghost use Rattle.std.specs.Orderings.{Decides};
 ghost use Rattle.words.specs.Sets.{has, has-with, has-without, has-either, Empty, Below, Lowest};
 
+/// How many latches there can be.
+pub const MOST_LATCHES: u8 = 32;
+
 /// A set of latches: latch i is in it exactly when bit i of the word, counted from the lowest, is set.
 #[derive(Clone, Copy, PartialEq, Eq, Debug)]
 pub struct LatchSet {

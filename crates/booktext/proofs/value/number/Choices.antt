@@ -1,5 +1,5 @@
 use mathlib.Core.Path.{_≡_}
-use Prim.Native.Nat.{ℕ, _+_, _*_, _^_, _≤_}
+use Prim.Native.Nat.{_+_, _*_, _^_, _≤_}
 use lib.ListN.{drop}
 use Rattle.format.specs.Bytes.{worth}
 use Rattle.booktext.proofs.value.number.Given as given

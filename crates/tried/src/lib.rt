@@ -1,0 +1,5 @@
+//! Tests by example of what the other crates do.
+#[cfg(test)]
+mod table;
+#[cfg(test)]
+mod texts;
