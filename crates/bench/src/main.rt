@@ -6,6 +6,9 @@ use book::Book;
 use book::Errand;
 use booktext::read_errand;
 use format::TextRefusal;
+use panel::Panel;
+use panel::register::Register;
+use panel::register::RegisterPanel;
 use std::env;
 use std::error::AnyError;
 use std::fs;
@@ -47,14 +50,16 @@ fn print_errand(rt: &LibcRuntime, errand: &Errand) -> Result<(), AnyError> {
     Ok(())
 }
 
-/// Prints each latch with its position at the start.
+/// Prints each latch with its position at the start, as a register panel that is made from it shows it.
 fn print_latches(rt: &LibcRuntime, errand: &Errand) -> Result<(), AnyError> {
     let latches = errand.book.latches;
+    let start = Register::new(latches, errand.start.word());
     println!(rt, "latches={latches}")?;
-    for latch in 0..latches {
+    for latch in 0..start.width() {
         let name = said::name(&errand.book, latch);
-        let at = said::digit(errand.start.contains(latch));
-        println!(rt, "latch={name}:{at}")?;
+        if let Some(at) = start.look(latch) {
+            println!(rt, "latch={name}:{at}")?;
+        }
     }
     Ok(())
 }

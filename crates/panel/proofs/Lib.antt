@@ -1,0 +1,5 @@
+pub mod Rows
+pub mod Switched
+mod Fronts
+mod Masks
+mod Pulses
