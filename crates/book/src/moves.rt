@@ -11,7 +11,7 @@ pub struct Move {
 
 impl Move {
     /// An empty place for a move.
-    pub const EMPTY: Move = Move {
+    pub(crate) const EMPTY: Move = Move {
         latch: 0,
         to: false,
         when: PartialSetting::EMPTY,

@@ -21,7 +21,7 @@ pub struct Name {
 
 impl Name {
     /// An empty place for a name.
-    pub const EMPTY: Name = Name {
+    pub(crate) const EMPTY: Name = Name {
         bytes: [0; MOST_CHARS],
         len: 0,
     };

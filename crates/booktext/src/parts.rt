@@ -13,6 +13,7 @@ ghost use Rattle.format.specs.Said.{rule-of, Told};
 ghost use Rattle.booktext.specs.At.{at};
 ghost use Rattle.booktext.specs.Kept.{Named-until, Speaks-of, Moved-until};
 use crate::lines::LineReader;
+use book::Book;
 use book::MOST_LATCHES;
 use book::MOST_MOVES;
 use book::Move;
@@ -26,7 +27,7 @@ impl LineReader<'_> {
         ensures told { λ r. ⌜ Told r (latches-read n [] (at (now (self .entry)))) (λ names. got (map name-of (take n names)) (at (now (self .exit)))) ⌝ }
         ensures table { λ r. ⌜ made r (Named-until n) ⌝ }
     {
-        let mut names = [Name::EMPTY; MOST_LATCHES];
+        let mut names = Book::blank().names;
         for i in 0..n as usize {
             names[i] = self.latch_line(&names[0..i])?;
         }
@@ -56,7 +57,7 @@ impl LineReader<'_> {
             (λ moves. got (map rule-of (take count moves)) (at (now (self .exit)))) ⌝ }
         ensures table { λ r. ⌜ made r (Moved-until (length (now (names .entry))) count) ⌝ }
     {
-        let mut moves = [Move::EMPTY; MOST_MOVES];
+        let mut moves = Book::blank().moves;
         for i in 0..count as usize {
             moves[i] = self.move_lines(names)?;
         }

@@ -1,13 +1,10 @@
-use mathlib.Core.Path.{_≡_, refl, ap}
+use mathlib.Core.Path.{_≡_, ap}
 use mathlib.Core.List.{[], map}
 use Prim.Native.Nat.{ℕ, _-_, _<_}
 use native.Mathlib.Omega.{arith}
 use lib.ListN.{length}
 use Rattle.std.proofs.shelf.Results.{err-from-errBy}
-use Rattle.book.specs.Places.{name-of, no-move}
-use Rattle.book.specs.Settings.{nothing-asked}
-use Rattle.book.proofs.Empty.{no-move-at}
-use Rattle.book.proofs.Sameness.{partial-same, move-same}
+use Rattle.book.specs.Places.{name-of}
 use Rattle.format.specs.Reading.{rules}
 use Rattle.format.proofs.Arrays.{move-turn, move-stop, move-finish}
 use Rattle.booktext.specs.At.{at}
@@ -19,9 +16,9 @@ loop-i-holds c =
     let e : c .args .count - 0 ≡ c .args .count = omega arith in (
       ap (λ (k : ℕ). rules k (map name-of (c .args .names .now)) [] (at (c .args .self .now))) e,
       record {
-        places = refl;
+        places = c .blank .result .«move_places»;
         speaks = λ k l. absurd (omega arith);
-        blank = λ k l. no-move-at 128 k _ (move-same _ no-move refl refl (partial-same _ nothing-asked refl refl));
+        blank = λ k l. c .blank .result .«no_moves» k (omega (arith, c .blank .ensures .count));
       },
     )
 

@@ -1,10 +1,9 @@
-use mathlib.Core.Path.{_≡_, refl, ap}
+use mathlib.Core.Path.{_≡_, ap}
 use mathlib.Core.List.{[]}
 use Prim.Native.Nat.{ℕ, _-_, _<_}
 use native.Mathlib.Omega.{arith}
 use lib.ListN.{length}
 use Rattle.std.proofs.shelf.Results.{err-from-errBy}
-use Rattle.book.proofs.Empty.{all-equal}
 use Rattle.format.specs.Reading.{latches}
 use Rattle.format.proofs.Arrays.{latch-turn, latch-stop, latch-finish}
 use Rattle.booktext.specs.At.{at}
@@ -14,7 +13,7 @@ use Rattle.booktext.proofs.lines.LineReader.latch_lines.Needs as need
 pub loop-i-holds : need.loop-i-holds
 loop-i-holds c =
     let e : c .args .n - 0 ≡ c .args .n = omega arith in
-    (ap (λ (k : ℕ). latches k [] (at (c .args .self .now))) e, record { places = refl; blank = λ k l. all-equal 32 k [] })
+    (ap (λ (k : ℕ). latches k [] (at (c .args .self .now))) e, record { places = c .blank .result .«name_places»; blank = λ k l. c .blank .result .«no_names» k (omega (arith, c .blank .ensures .latches)) })
 
 pub returns-in-Break-names : need.returns-in-Break-names
 returns-in-Break-names c =
