@@ -1,0 +1,4 @@
+pub mod NormalForm
+pub mod Leading
+pub mod Theorems
+pub mod Computed

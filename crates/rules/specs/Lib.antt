@@ -1,0 +1,4 @@
+pub mod Rules
+pub mod NormalForm
+pub mod Theorems
+pub mod Worked

@@ -1,0 +1,10 @@
+pub mod Searches
+pub mod Tasks
+pub mod Class
+pub mod Meaning
+pub mod Order
+pub mod Recipes
+pub mod Route
+pub mod Judgement
+pub mod Bound
+pub mod Theorems
