@@ -9,7 +9,8 @@ use Rattle.std.proofs.shelf.Tests.{both-ways, cases-bool, cases-eq, cases-lt, a
 use Rattle.theory.specs.Searches.{In, some-of}
 use Rattle.theory.specs.Tasks.{Ask, any, at-zero, at-one, Move, Task, Well-formed, asked?, asks?, ask-for}
 use Rattle.theory.specs.Class.{edge?, walk?, acyclic?, thrown?, static?, same-ask?, reverse?, reversible?, dependent?, cut?, link?, side?, splitting?, in-class?}
-use Rattle.theory.specs.Meaning.{Walk, one, step, Throws, Edge, Acyclic, Static, Reversible, Dependent, Uncut, Link, Side, Splitting}
+use Rattle.graph.specs.Walks.{Walk, one, step}
+use Rattle.theory.specs.Meaning.{Throws, Edge, Acyclic, Static, Reversible, Dependent, Uncut, Link, Side, Splitting}
 use Rattle.theory.specs.Theorems.{Class-is-meant}
 use Rattle.theory.proofs.Searches.{some-of-true, some-of-from, all-of-from, some-below-true, some-below-from, all-below-true, all-below-from, beq-true, beq-from}
 use Rattle.theory.proofs.Walks.{walk-map, walk-true, walk-from}

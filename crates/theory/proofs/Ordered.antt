@@ -11,7 +11,7 @@ use Rattle.std.proofs.shelf.Tests.{both-ways, cases-bool, and-parts, and-from, 
 use Rattle.theory.specs.Searches.{In, has, all-below, lowest}
 use Rattle.theory.specs.Tasks.{Ask, any, at-zero, at-one, Move, Task, Well-formed, asked?}
 use Rattle.theory.specs.Class.{edge?, walk?, acyclic?}
-use Rattle.theory.specs.Meaning.{Walk, one, step}
+use Rattle.graph.specs.Walks.{Walk, one, step}
 use Rattle.theory.specs.Order.{next?, placing, latest-first}
 use Rattle.theory.proofs.Searches.{some-of-true, all-below-true, all-below-false, lowest-some, lowest-none, has-in, in-has}
 use Rattle.theory.proofs.Walks.{Holds, walk-join, walk-true, walk-from}

@@ -9,7 +9,7 @@ use Rattle.std.proofs.shelf.Tests.{both-ways, cases-bool, cases-eq, and-parts, 
 use Rattle.theory.specs.Searches.{In}
 use Rattle.theory.specs.Tasks.{Ask, any, at-zero, at-one, Move, Task, Well-formed, Setting, Met, put, Legal, Run, asked?, asks?, ask-against}
 use Rattle.theory.specs.Class.{edge?, side?, splitting?}
-use Rattle.theory.specs.Meaning.{Walk, one}
+use Rattle.graph.specs.Walks.{Walk, one}
 use Rattle.theory.specs.Recipes.{Recipe, Table, kept?, moves-to, serves?, helper?, recipe-parts, opened, table-of}
 use Rattle.theory.proofs.Walks.{walk-join}
 use Rattle.theory.proofs.Ordered.{Arrow, Well-placed, before-walk, before-next}

@@ -7,7 +7,7 @@ use Prim.Native.Nat.{ℕ, _<_}
 use Rattle.std.proofs.shelf.Tests.{cases-eq}
 use Rattle.theory.specs.Searches.{In}
 use Rattle.theory.specs.Tasks.{Task, Setting, Met, put, Run}
-use Rattle.theory.specs.Meaning.{Walk}
+use Rattle.graph.specs.Walks.{Walk}
 use Rattle.theory.specs.Recipes.{Table}
 use Rattle.theory.proofs.Ordered.{Arrow, Next, Along}
 use Rattle.theory.proofs.Running.{put-same, put-other}

@@ -8,7 +8,7 @@ use Rattle.std.proofs.shelf.Tests.{both-ways, cases-bool, cases-eq, and-parts, 
 use Rattle.theory.specs.Searches.{In}
 use Rattle.theory.specs.Tasks.{Ask, any, at-zero, at-one, Move, Task, Well-formed, Setting, Met, put, Run, asks?}
 use Rattle.theory.specs.Class.{side?, splitting?}
-use Rattle.theory.specs.Meaning.{Walk}
+use Rattle.graph.specs.Walks.{Walk}
 use Rattle.theory.specs.Recipes.{Table, kept?, moves-to}
 use Rattle.theory.specs.Route.{on-side, on-neither, set-route}
 use Rattle.theory.proofs.Ordered.{Arrow, Well-placed, Next, Along, before-next}

@@ -8,7 +8,7 @@ use Rattle.std.proofs.shelf.Tests.{both-ways, cases-bool, and-parts, and-from, 
 use Rattle.theory.specs.Searches.{In}
 use Rattle.theory.specs.Tasks.{Ask, any, at-zero, at-one, Move, Task, Well-formed, asked?, asks?}
 use Rattle.theory.specs.Class.{edge?, walk?, dependent?, cut?, link?, side?, splitting?}
-use Rattle.theory.specs.Meaning.{Walk, one, step}
+use Rattle.graph.specs.Walks.{Walk, one, step}
 use Rattle.theory.proofs.Searches.{some-of-true, some-of-from, some-below-true, some-below-from, all-below-true}
 use Rattle.theory.proofs.Walks.{walk-join, walk-true, walk-from}
 use Rattle.theory.proofs.Ordered.{Arrow, edge-starts, edge-ends}

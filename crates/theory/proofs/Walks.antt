@@ -6,7 +6,7 @@ use Prim.Native.Nat.{ℕ, zero, suc, _<_}
 use native.Mathlib.Omega.{arith}
 use Rattle.std.proofs.shelf.Tests.{or-cases, or-left, or-right, and-parts, and-from}
 use Rattle.theory.specs.Class.{walk?}
-use Rattle.theory.specs.Meaning.{Walk, one, step}
+use Rattle.graph.specs.Walks.{Walk, one, step}
 use Rattle.theory.proofs.Searches.{below-cases}
 
 -- a test, as a relation

@@ -1,5 +1,4 @@
 -- The kinds of latch and the class 3S in plain terms: relations, not tests. Class has each as a test. Assumes nothing.
---   Walk R u v          one or more steps of R lead from u to v
 --   Throws t v m        m is a move of t that throws v
 --   Edge t u v          the causal graph: a move throws v and asks something of u, another latch
 --   Acyclic t           no latch reaches itself along edges
@@ -16,13 +15,9 @@ use mathlib.Core.Path.{_≡_}
 use mathlib.Core.Bool.{Bool, true, false, not}
 use mathlib.Core.Logic.{_⊎_, _≢_}
 use Prim.Native.Nat.{ℕ, _<_}
+use Rattle.graph.specs.Walks.{Walk}
 use Rattle.theory.specs.Searches.{In}
 use Rattle.theory.specs.Tasks.{any, at-zero, Move, Task, ask-for}
-
--- a walk in the graph of R
-pub data Walk (R : ℕ → ℕ → Type 0) : ℕ → ℕ → Type 0 where
-  one : {u v : ℕ} → R u v → Walk R u v
-  step : {u w v : ℕ} → R u w → Walk R w v → Walk R u v
 
 -- a move of v
 abbrev pub Throws : Task → ℕ → Move → Type 0

@@ -115,17 +115,20 @@ bit-not (suc k) w (suc j) h l =
     let s : w / 2 < 2 ^ k = omega (arith, pow-suc 2 k) in
     sym (bit-half (2 ^ suc k - 1 - w) j) ∙ ap (λ (x : ℕ). bit x j) e ∙ bit-not k (w / 2) j s (omega arith) ∙ ap (λ (x : ℕ). 1 - x) (bit-half w j)
 
+-- v & !w
+pub bit-minus : (v w j : ℕ) → v < 2 ^ 32 → w < 2 ^ 32 → bit (bitAnd v (2 ^ 32 - 1 - w)) j ≡ min (bit v j) (1 - bit w j)
+bit-minus v w j a b = go (decLt j 32)
+  where
+    go : Dec (j < 32) → bit (bitAnd v (2 ^ 32 - 1 - w)) j ≡ min (bit v j) (1 - bit w j)
+    go (yes l) = omega (arith, bit-and v (2 ^ 32 - 1 - w) j, bit-not 32 w j b l)
+    go (no l) = omega (arith, bit-and v (2 ^ 32 - 1 - w) j, bit-past 32 v j a (omega arith))
+
 -- w & !(1 << i)
-pub bit-without-same : (w i : ℕ) → i < 32 → bit (bitAnd w (2 ^ 32 - 1 - 2 ^ i)) i ≡ 0
-bit-without-same w i h =
-    omega (arith, bit-and w (2 ^ 32 - 1 - 2 ^ i) i, bit-not 32 (2 ^ i) i (pow-lt h) h, bit-pow-same i)
+pub bit-without-same : (w i : ℕ) → w < 2 ^ 32 → i < 32 → bit (bitAnd w (2 ^ 32 - 1 - 2 ^ i)) i ≡ 0
+bit-without-same w i b h = omega (arith, bit-minus w (2 ^ i) i b (pow-lt h), bit-pow-same i)
 
 pub bit-without-other : (w i j : ℕ) → w < 2 ^ 32 → i < 32 → j ≢ i → bit (bitAnd w (2 ^ 32 - 1 - 2 ^ i)) j ≡ bit w j
-bit-without-other w i j b h ne = go (decLt j 32)
-  where
-    go : Dec (j < 32) → bit (bitAnd w (2 ^ 32 - 1 - 2 ^ i)) j ≡ bit w j
-    go (yes l) = omega (arith, bit-and w (2 ^ 32 - 1 - 2 ^ i) j, bit-not 32 (2 ^ i) j (pow-lt h) l, bit-pow-other i j ne, bit-small w j)
-    go (no l) = omega (arith, bit-and w (2 ^ 32 - 1 - 2 ^ i) j, bit-past 32 w j b (omega arith))
+bit-without-other w i j b h ne = omega (arith, bit-minus w (2 ^ i) j b (pow-lt h), bit-pow-other i j ne, bit-small w j)
 
 pub bit-xor : (a b i : ℕ) → bit (bitXor a b) i ≡ (bit a i + bit b i) % 2
 bit-xor a b i = rw xor-shr (omega (arith, xor-add-and (a / 2 ^ i) (b / 2 ^ i)))

@@ -1,8 +1,8 @@
 -- Sets by their members: what the operations on words do to each latch.
-use mathlib.Core.Path.{_≡_, sym, ap, _∙_}
+use mathlib.Core.Path.{_≡_, refl, sym, ap, _∙_}
 use mathlib.Core.Bool.{Bool, true, false, not, _&&_, _||_}
-use mathlib.Core.Logic.{_⊎_, inl, inr}
-use Prim.Native.Nat.{ℕ, _+_, _-_, _*_, _/_, _%_, _^_, _≤_, _<_, max}
+use mathlib.Core.Logic.{_⊎_, inl, inr, ⊎-elim}
+use Prim.Native.Nat.{ℕ, _+_, _-_, _*_, _/_, _%_, _^_, _≤_, _<_, min, max}
 use native.Mathlib.Nat.{div-lt-iff-lt-mul}
 use native.Mathlib.Omega.{arith}
 use base.Stored.{Coded, codedℕ, codedVia}
@@ -10,12 +10,12 @@ use lib.Bits.{bitAnd, bitOr}
 use lib.Dec.{eqb, ltb}
 use lib.Pow.{shr-shr, pow-pos}
 use Rattle.std.specs.Orderings.{Decides}
-use Rattle.std.proofs.shelf.Tests.{cases-eq, eq-eqb, ne-eqb, eqb-true, eqb-false, lt-ltb, le-ltb, or-right, and-from, and-left, and-right, not-from-true, not-from-false}
+use Rattle.std.proofs.shelf.Tests.{cases-eq, eq-eqb, ne-eqb, eqb-true, eqb-false, lt-ltb, le-ltb, or-cases, or-right, and-parts, and-from, and-left, and-right, not-from-true, not-from-false}
 use Rattle.std.proofs.shelf.Ways.{tells}
 use Rattle.words.specs.declared.LatchSet.{LatchSet}
 use Rattle.words.specs.Bit.{bit, set?, All-clear, All-clear-from}
-use Rattle.words.specs.Sets.{has, no-latch, Empty}
-use Rattle.words.proofs.BitLaws.{bit-small, bit-of-zero, bit-ext, bit-past, bit-index, bit-or, bit-with-same, bit-with-other, bit-without-same, bit-without-other}
+use Rattle.words.specs.Sets.{most-latches, no-latch, has, has-with, Empty, Below}
+use Rattle.words.proofs.BitLaws.{bit-small, bit-of-zero, bit-ext, bit-lt, bit-past, bit-index, bit-or, bit-with-same, bit-with-other, bit-minus, bit-without-same, bit-without-other}
 
 -- a bit that is not set is clear
 pub absent-bit : (w j : ℕ) → set? w j ≡ false → bit w j ≡ 0
@@ -74,7 +74,7 @@ pub members-without : (w i j : ℕ) → w < 2 ^ 32 → i < 32 → eqb (bit (bitA
 members-without w i j b l =
     elim (cases-eq j i) [
       | inl e ↦
-          clear-absent (bitAnd w (2 ^ 32 - 1 - 2 ^ i)) j (ap (λ (k : ℕ). bit (bitAnd w (2 ^ 32 - 1 - 2 ^ i)) k) e ∙ bit-without-same w i l)
+          clear-absent (bitAnd w (2 ^ 32 - 1 - 2 ^ i)) j (ap (λ (k : ℕ). bit (bitAnd w (2 ^ 32 - 1 - 2 ^ i)) k) e ∙ bit-without-same w i b l)
           ∙ sym (and-right (set? w j) (not (eqb j i)) (not-from-true (eqb j i) (eq-eqb j i e)))
       | inr ne ↦
           ap (λ (x : ℕ). eqb x 1) (bit-without-other w i j b l ne) ∙ and-all (set? w j) (not (eqb j i)) (not-from-false (eqb j i) (ne-eqb j i ne))
@@ -97,6 +97,13 @@ members-either v w j = ap (λ (x : ℕ). eqb x 1) (bit-or v w j) ∙ larger (bit
   where
     larger : (x y : ℕ) → x < 2 → y < 2 → eqb (max x y) 1 ≡ (eqb x 1 || eqb y 1)
     larger x y a b = grind (arith, tells)
+
+-- the members of & !
+pub members-minus : (v w j : ℕ) → v < 2 ^ 32 → w < 2 ^ 32 → eqb (bit (bitAnd v (2 ^ 32 - 1 - w)) j) 1 ≡ (set? v j && not (set? w j))
+members-minus v w j a b = ap (λ (x : ℕ). eqb x 1) (bit-minus v w j a b) ∙ left (bit v j) (bit w j) (bit-small v j) (bit-small w j)
+  where
+    left : (x y : ℕ) → x < 2 → y < 2 → eqb (min x (1 - y)) 1 ≡ (eqb x 1 && not (eqb y 1))
+    left x y a b = grind (arith, tells)
 
 -- the word 0 has no bit that is set, and no other word has none
 pub zero-word : (w : ℕ) → Decides (eqb w 0) (All-clear w)
@@ -130,3 +137,27 @@ below-word w n = (below, shifted)
 -- every word of 32 bits has bits below 32 alone
 pub below-all : (w n : ℕ) → w < 2 ^ 32 → 32 ≤ n → All-clear-from n w
 below-all w n b l j h = let k = bit-index 32 w j b (eqb-true (bit w j) 1 h) in omega arith
+
+-- the set with a latch has that latch, if there can be such a latch
+pub with-has : (s : LatchSet) (i : ℕ) → i < most-latches → has-with s i i ≡ true
+with-has s i l = or-right (has s i) _ (and-from (eqb i i) (ltb i most-latches) (eq-eqb i i refl) (lt-ltb i most-latches l))
+
+-- the set with a latch has its members and that latch alone
+pub with-cases : (s : LatchSet) (i j : ℕ) → has-with s i j ≡ true → (has s j ≡ true) ⊎ (j ≡ i)
+with-cases s i j h =
+    ⊎-elim inl (λ e. inr (eqb-true j i (and-parts (eqb j i) (ltb i most-latches) e .0))) (or-cases (has s j) _ h)
+
+-- a set of latches below 32 is a word of 32 bits
+pub below-small : (s : LatchSet) → Below most-latches s → s .word < 2 ^ 32
+below-small s h = let e : s .word / 2 ^ 32 ≡ 0 = eqb-true (s .word / 2 ^ 32) 0 (below-word (s .word) 32 .1 h) in omega arith
+
+-- a set with one latch more is a larger word
+pub more-larger : (s t : LatchSet) (u : ℕ) → ((j : ℕ) → has s j ≡ true → has t j ≡ true) → has s u ≡ false → has t u ≡ true → s .word < t .word
+more-larger s t u h p q = bit-lt (s .word) (t .word) u kept (absent-bit (s .word) u p) (eqb-true (bit (t .word) u) 1 q)
+  where
+    kept : (j : ℕ) → bit (s .word) j ≤ bit (t .word) j
+    kept j =
+        elim (cases-eq (bit (s .word) j) 1) [
+          | inl e ↦ let k : bit (t .word) j ≡ 1 = eqb-true (bit (t .word) j) 1 (h j (eq-eqb (bit (s .word) j) 1 e)) in omega arith
+          | inr ne ↦ omega (arith, bit-small (s .word) j)
+        ]

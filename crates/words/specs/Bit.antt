@@ -27,6 +27,6 @@ All-clear w = (j : ℕ) → set? w j ≡ false
 abbrev pub All-clear-from : ℕ → ℕ → Type 0
 All-clear-from n w = (j : ℕ) → set? w j ≡ true → j < n
 
--- the lowest bit that is set: no bit before it is
+-- the lowest bit that is set, one of 32: no bit before it is
 abbrev pub Lowest-bit : ℕ → Option ℕ → Type 0
-Lowest-bit w o = Cases o (All-clear w) (λ i. (set? w i ≡ true) × ((j : ℕ) → j < i → set? w j ≡ false))
+Lowest-bit w o = Cases o (All-clear w) (λ i. (set? w i ≡ true) × ((j : ℕ) → j < i → set? w j ≡ false) × (i < 32))

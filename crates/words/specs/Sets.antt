@@ -5,6 +5,7 @@
 --   has-with s i      the members of s and, if there can be such a latch, latch i
 --   has-without s i   the members of s but latch i
 --   has-either s t    the members of s and of t
+--   has-minus s t     the members of s but those of t
 --   Empty s           no latch is in s
 --   Below n s         each latch of s is one of the first n
 --   Lowest s o        o is the lowest latch of s, if there is one
@@ -41,6 +42,10 @@ has-without s i j = has s j && not (eqb j i)
 abbrev pub has-either : LatchSet → LatchSet → ℕ → Bool
 has-either s t j = has s j || has t j
 
+-- latch j is in the one set and not in the other
+abbrev pub has-minus : LatchSet → LatchSet → ℕ → Bool
+has-minus s t j = has s j && not (has t j)
+
 -- no latch is in the set
 abbrev pub Empty : LatchSet → Type 0
 Empty s = (j : ℕ) → has s j ≡ false
@@ -49,6 +54,6 @@ Empty s = (j : ℕ) → has s j ≡ false
 abbrev pub Below : ℕ → LatchSet → Type 0
 Below n s = (j : ℕ) → has s j ≡ true → j < n
 
--- the lowest latch of the set: it is in the set, and none before it is
+-- the lowest latch of the set: it is in the set, none before it is, and it is one that there can be
 abbrev pub Lowest : LatchSet → Option ℕ → Type 0
-Lowest s o = Cases o (Empty s) (λ i. (has s i ≡ true) × ((j : ℕ) → j < i → has s j ≡ false))
+Lowest s o = Cases o (Empty s) (λ i. (has s i ≡ true) × ((j : ℕ) → j < i → has s j ≡ false) × (i < most-latches))

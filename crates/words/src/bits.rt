@@ -40,6 +40,13 @@ pub(crate) fn either(a: u32, b: u32) -> u32
     a | b
 }
 
+/// The bits of the one word that are clear in the other.
+pub(crate) fn minus(a: u32, b: u32) -> u32
+    ensures { λ r. ⌜ ((j : ℕ) → set? r j ≡ (set? a j && not (set? b j))) ⌝ }
+{
+    a & !b
+}
+
 /// Whether no bit is set.
 pub(crate) fn all_clear(word: u32) -> bool
     ensures { λ r. ⌜ Decides r (All-clear word) ⌝ }

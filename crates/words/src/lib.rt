@@ -4,7 +4,7 @@ mod bits;
 ghost use mathlib.Core.Path.{_≡_};
 ghost use Prim.Native.Nat.{ℕ};
 ghost use Rattle.std.specs.Orderings.{Decides};
-ghost use Rattle.words.specs.Sets.{has, has-with, has-without, has-either, Empty, Below, Lowest};
+ghost use Rattle.words.specs.Sets.{has, has-with, has-without, has-either, has-minus, Empty, Below, Lowest};
 
 /// How many latches there can be.
 pub const MOST_LATCHES: u8 = 32;
@@ -65,6 +65,15 @@ impl LatchSet {
     {
         LatchSet {
             word: bits::either(self.word, other.word),
+        }
+    }
+
+    /// The latches of the set that are not in the other.
+    pub fn difference(self, other: LatchSet) -> LatchSet
+        ensures { λ r. ⌜ ((j : ℕ) → has r j ≡ has-minus self other j) ⌝ }
+    {
+        LatchSet {
+            word: bits::minus(self.word, other.word),
         }
     }
 

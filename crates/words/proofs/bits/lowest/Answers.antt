@@ -11,4 +11,4 @@ pub returns : need.returns
 returns c =
     let l = low 32 (c .args .word) in
     let i : trailingZeros 32 (c .args .word) < 32 = l .0 (omega arith) (omega arith) in
-    (eq-eqb _ 1 (l .1 i), λ j h. clear-absent (c .args .word) j (l .2 j h))
+    (eq-eqb _ 1 (l .1 i), λ j h. clear-absent (c .args .word) j (l .2 j h), i)
