@@ -141,11 +141,18 @@ pub fn read_errand(text: &[u8]) -> Result<Errand, TextRefusal>
     errand_from(text)
 }
 
+/// Whether the book has a latch.
+fn has_latch(book: &Book) -> bool
+    ensures { λ r. ⌜ r ≡ ltb 0 (now (book .entry) .latches) ⌝ }
+{
+    book.latches > 0
+}
+
 /// Whether a book has a text: it does if it has a latch. It then has exactly one, which is within the limit, and no other book with a latch
 /// has the same.
 pub fn has_text(book: &Book) -> bool
     ensures when { λ r. ⌜ r ≡ ltb 0 (now (book .entry) .latches) ⌝ }
     ensures text { λ r. ⌜ (r ≡ true → Has-one-text (now (book .entry))) ⌝ }
 {
-    book.latches > 0
+    has_latch(book)
 }

@@ -43,13 +43,20 @@ pub struct TextRefusal {
     pub line: u32,
 }
 
+/// The limit, in bytes.
+fn limit() -> usize
+    ensures { λ r. ⌜ r ≡ most-bytes ⌝ }
+{
+    65_536
+}
+
 /// The most bytes that a text may have. Reading accepts exactly the texts of books with a latch and of their errands, none of which is
 /// longer, and such a book has exactly one text.
 pub fn most_bytes() -> usize
-    ensures limit { λ r. ⌜ r ≡ most-bytes ⌝ }
+    ensures bytes { λ r. ⌜ r ≡ most-bytes ⌝ }
     ensures exact { λ _. ⌜ Exact ⌝ }
     ensures one { λ _. ⌜ One-text ⌝ }
     ensures errands { λ _. ⌜ Exact-errands ⌝ }
 {
-    65_536
+    limit()
 }
