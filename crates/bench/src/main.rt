@@ -1,5 +1,5 @@
-//! The bench: reads an errand text from the file that is named, or from standard input, and prints what it read, or by which number and at
-//! which line it refuses.
+//! The bench: reads an errand text from the file that is named, or from standard input, and prints what it read and its class, or by which
+//! number and at which line it refuses.
 mod said;
 
 use book::Book;
@@ -9,6 +9,7 @@ use format::TextRefusal;
 use panel::Panel;
 use panel::register::Register;
 use panel::register::RegisterPanel;
+use planner::is_in_class;
 use std::env;
 use std::error::AnyError;
 use std::fs;
@@ -38,7 +39,7 @@ fn input(rt: &LibcRuntime) -> Result<Vec<u8>, AnyError> {
     Ok(text)
 }
 
-/// Prints what an errand says: each latch with its position at the start, each move, and what is wanted.
+/// Prints what an errand says: each latch with its position at the start, each move, what is wanted, and the class.
 fn print_errand(rt: &LibcRuntime, errand: &Errand) -> Result<(), AnyError> {
     println!(rt, "answer=read")?;
     println!(rt, "refusal=0")?;
@@ -47,6 +48,8 @@ fn print_errand(rt: &LibcRuntime, errand: &Errand) -> Result<(), AnyError> {
     print_moves(rt, &errand.book)?;
     let want = said::items(rt.alloc(), &errand.book, errand.want)?;
     println!(rt, "want={want}")?;
+    let class = if is_in_class(errand) { "3S" } else { "outside" };
+    println!(rt, "class={class}")?;
     Ok(())
 }
 

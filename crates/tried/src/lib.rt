@@ -1,5 +1,7 @@
 //! Tests by example of what the other crates do.
 #[cfg(test)]
+mod classes;
+#[cfg(test)]
 mod table;
 #[cfg(test)]
 mod texts;

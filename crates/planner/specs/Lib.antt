@@ -1,0 +1,4 @@
+pub mod Asks
+pub mod Errands
+pub mod Places
+pub mod Tasks
