@@ -1,5 +1,5 @@
-//! The bench: reads an errand text from the file that is named, or from standard input, and prints what it read and its class, or by which
-//! number and at which line it refuses.
+//! The bench: reads an errand text from the file that is named, or from standard input, and prints whether there is a way and what it read,
+//! or by which number and at which line it refuses.
 mod said;
 
 use book::Book;
@@ -9,11 +9,12 @@ use format::TextRefusal;
 use panel::Panel;
 use panel::register::Register;
 use panel::register::RegisterPanel;
-use planner::is_in_class;
+use planner::judge;
 use std::env;
 use std::error::AnyError;
 use std::fs;
 use std::io::Read;
+use theory::Judgement;
 
 fn main(rt: LibcRuntime) -> Result<(), AnyError> {
     rt.report(run(&rt))
@@ -39,17 +40,20 @@ fn input(rt: &LibcRuntime) -> Result<Vec<u8>, AnyError> {
     Ok(text)
 }
 
-/// Prints what an errand says: each latch with its position at the start, each move, what is wanted, and the class.
+/// Prints whether there is a way, and what the errand says: each latch with its position at the start, each move, and what is wanted.
 fn print_errand(rt: &LibcRuntime, errand: &Errand) -> Result<(), AnyError> {
-    println!(rt, "answer=read")?;
-    println!(rt, "refusal=0")?;
+    let (answer, refusal) = match judge(errand) {
+        Judgement::Way => ("way", 0),
+        Judgement::Outside => ("outside", 9),
+        Judgement::NoWay => ("noway", 10),
+    };
+    println!(rt, "answer={answer}")?;
+    println!(rt, "refusal={refusal}")?;
     println!(rt, "line=0")?;
     print_latches(rt, errand)?;
     print_moves(rt, &errand.book)?;
     let want = said::items(rt.alloc(), &errand.book, errand.want)?;
     println!(rt, "want={want}")?;
-    let class = if is_in_class(errand) { "3S" } else { "outside" };
-    println!(rt, "class={class}")?;
     Ok(())
 }
 

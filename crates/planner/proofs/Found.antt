@@ -43,15 +43,15 @@ abbrev pub all-to : (Move → Bool) → List NormalMove → ℕ → Bool
 all-to test ms i = all-of test (map move-of (take i ms))
 
 -- the place is one of the first n and within the list
-place-before : (ms : List NormalMove) (n i : ℕ) → i < length (take (n - 0) ms) → (i < n) × (i < length ms)
+pub place-before : (ms : List NormalMove) (n i : ℕ) → i < length (take (n - 0) ms) → (i < n) × (i < length ms)
 place-before ms n i l = (omega (arith, length-take (n - 0) ms), omega (arith, length-take (n - 0) ms))
 
 -- the loop stops at n
-place-end : (ms : List NormalMove) (n i : ℕ) → Stops ms n i → i ≡ n
+pub place-end : (ms : List NormalMove) (n i : ℕ) → Stops ms n i → i ≡ n
 place-end ms n i s = omega (arith, length-take (n - 0) ms)
 
 -- the move that is read is the one at the place
-place-read : (ms : List NormalMove) (n i : ℕ) (m : NormalMove) → Reads ms n i m → m ≡ move-at ms i
+pub place-read : (ms : List NormalMove) (n i : ℕ) (m : NormalMove) → Reads ms n i m → m ≡ move-at ms i
 place-read ms n i m r =
     getD-read (take (n - 0) ms) i m (r .0) (r .1) no-move ∙ getD-take (n - 0) ms i no-move (omega (arith, length-take (n - 0) ms))
 

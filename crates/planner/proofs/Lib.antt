@@ -3,8 +3,17 @@ pub mod Circles
 pub mod ClassFormed
 pub mod ClassTold
 pub mod Found
+pub mod Judging
 pub mod KindsAlike
 pub mod NormalFormAsks
 pub mod NormalFormMoves
 pub mod NormalFormTasks
+pub mod OrderFresh
+pub mod Placing
+pub mod PlacingNext
+pub mod RecipeChoice
+pub mod RecipeLengths
+pub mod RecipesHeld
+pub mod RecipesTabled
+pub mod Serving
 pub mod SidesKept

@@ -1,24 +1,26 @@
 //! What is said of an errand.
 ghost use mathlib.Core.Path.{_≡_};
-ghost use Rattle.std.specs.Orderings.{Decides};
 ghost use Rattle.theory.specs.Class.{in-class?};
-ghost use Rattle.theory.specs.Meaning.{In-class};
-ghost use Rattle.planner.specs.Errands.{errand-task};
+ghost use Rattle.theory.specs.Judgement.{judgement};
+ghost use Rattle.theory.specs.Route.{no-way?};
+ghost use Rattle.planner.specs.Errands.{errand-task, Says};
 use crate::normal::normal_task;
 use book::Errand;
+use theory::Judgement;
 
-/// Whether the task of the errand passes the test of the class.
-fn passes(errand: &Errand) -> bool
-    ensures { λ r. ⌜ r ≡ in-class? (errand-task (now (errand .entry))) ⌝ }
+/// The judgement on the task of the errand.
+fn judged(errand: &Errand) -> Judgement
+    ensures { λ r. ⌜ r ≡ judgement (in-class? (errand-task (now (errand .entry)))) (no-way? (errand-task (now (errand .entry)))) ⌝ }
 {
-    normal_task(&errand.book, errand.start, errand.want).is_in_class()
+    let task = normal_task(&errand.book, errand.start, errand.want);
+    theory::judge(task.is_in_class(), task.is_no_way())
 }
 
-/// Whether an errand is in the class 3S: in normal form no latch reaches itself along edges, and every latch is static, reversible or
-/// splitting. The test answers what the class is in plain terms.
-pub fn is_in_class(errand: &Errand) -> bool
-    ensures answer { λ r. ⌜ r ≡ in-class? (errand-task (now (errand .entry))) ⌝ }
-    ensures meant { λ r. ⌜ Decides r (In-class (errand-task (now (errand .entry)))) ⌝ }
+/// What is said of an errand. `Outside`: it is not in the class 3S. `NoWay`: it is, and no list of legal moves leads from its start to where it
+/// is met. `Way`: it is, and the route of the rules is a list of legal moves that leads there.
+pub fn judge(errand: &Errand) -> Judgement
+    ensures answer { λ r. ⌜ r ≡ judgement (in-class? (errand-task (now (errand .entry)))) (no-way? (errand-task (now (errand .entry)))) ⌝ }
+    ensures says { λ r. ⌜ Says r (now (errand .entry)) ⌝ }
 {
-    passes(errand)
+    judged(errand)
 }

@@ -1,6 +1,6 @@
 //! Tests by example of what the other crates do.
 #[cfg(test)]
-mod classes;
+mod judgements;
 #[cfg(test)]
 mod table;
 #[cfg(test)]
