@@ -153,7 +153,8 @@ class Speller:
     def comment(self, text):
         m = re.match(r"(   )(\S.*?)(  +\S.*|)$", text)
         if m and not text.startswith("    "):
-            return m[1] + TOKEN.sub(lambda t: t["dot"] + self.table.get(t["name"], t["name"]), m[2]) + m[3]
+            head = TOKEN.sub(lambda t: t["dot"] + self.table.get(t["name"], t["name"]), m[2])
+            return m[1] + (head.ljust(len(m[2])) if m[3] else head) + m[3]
         return self.quoted(text)
 
     def quoted(self, text):
@@ -163,7 +164,7 @@ class Speller:
         """Respells the clauses, the ghost items and the ghost imports of Rust's text."""
         self.own, self.modules = {}, set()
         out, at = [], 0
-        starts = re.compile(r"\b(?:requires|ensures|ghost)\b\*?[^{};=]*?(?:\{|=\s*\{)|ghost use [^;]*;", re.M)
+        starts = re.compile(r"ghost use [^;]*;|\b(?:requires|ensures|ghost)\b\*?[^{};=]*?(?:\{|=\s*\{)", re.M)
         kept = set()
         for it in re.finditer(r"ghost use (Rattle\.(?:std|core)\b|lib\.|mathlib\.|Prim\.|native\.|denote\.)[^{;]*\{([^}]*)\}", text):
             kept.update(re.findall(NAME, it[2]))

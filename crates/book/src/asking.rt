@@ -1,6 +1,6 @@
 //! Naming one more latch in a partial setting.
 ghost use Rattle.std.specs.Prelude.{◌≡◌, ℕ, ◌<◌, true, false};
-ghost use Rattle.book.specs.Settings.{asked, asked-with};
+ghost use Rattle.book.specs.Settings.{asked, asked_with};
 
 use crate::partial::PartialSetting;
 

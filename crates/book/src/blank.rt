@@ -1,7 +1,7 @@
 //! The blank book.
 ghost use Rattle.std.specs.Prelude.{◌≡◌, [], map, replicate};
-ghost use Rattle.words.specs.Sets.{most-latches};
-ghost use Rattle.book.specs.Limits.{most-moves};
+ghost use Rattle.words.specs.Sets.{most_latches};
+ghost use Rattle.book.specs.Limits.{most_moves};
 ghost use Rattle.book.specs.Places.{name_of, no_move};
 
 use crate::book::{Book, MOST_LATCHES, MOST_MOVES};

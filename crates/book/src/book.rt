@@ -1,9 +1,9 @@
 //! Books.
 ghost use Rattle.std.specs.Prelude.{◌≡◌, ℕ, ◌<◌, ◌≤◌, true, false, [], length};
-ghost use Rattle.words.specs.Sets.{Below, most-latches};
-ghost use Rattle.book.specs.Limits.{most-moves};
-ghost use Rattle.book.specs.Names.{well-named, same};
-ghost use Rattle.book.specs.Places.{name-at, move-at, no_move};
+ghost use Rattle.words.specs.Sets.{Below, most_latches};
+ghost use Rattle.book.specs.Limits.{most_moves};
+ghost use Rattle.book.specs.Names.{well_named, same};
+ghost use Rattle.book.specs.Places.{name_at, move_at, no_move};
 
 use crate::moves::Move;
 use crate::name::Name;

@@ -1,6 +1,6 @@
 //! What a name is.
 ghost use Rattle.std.specs.Prelude.{◌≡◌, ℕ, ◌≤◌, true, length, take, slice_index};
-ghost use Rattle.book.specs.Names.{most-chars, name-chars};
+ghost use Rattle.book.specs.Names.{most_chars, name_chars};
 
 /// The most characters of a name.
 pub(crate) const MOST_CHARS: usize = 11;

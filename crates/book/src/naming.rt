@@ -1,6 +1,6 @@
 //! Making names, and reading them.
 ghost use Rattle.std.specs.Prelude.{◌≡◌, ◌≤◌, true, false, length, MatchOption};
-ghost use Rattle.book.specs.Names.{most-chars, name-char, name-chars, well-named};
+ghost use Rattle.book.specs.Names.{most_chars, name_char, name_chars, well_named};
 ghost use Rattle.book.specs.Places.{name_of};
 
 use crate::name::{MOST_CHARS, Name};

@@ -1,7 +1,7 @@
 -- What is read into the tables of a book. Assumes nothing.
---   NamedUntil n names     the table of names has its places, and those from n on are empty
---   SpeaksOf n m           the move m speaks of the latches below n alone
---   MovedUntil n c moves   the table of moves has its places, the first c speak of the latches below n alone, and the rest are empty
+--   NamedUntil n names      the table of names has its places, and those from n on are empty
+--   SpeaksOf n m            the move m speaks of the latches below n alone
+--   MovedUntil n c moves    the table of moves has its places, the first c speak of the latches below n alone, and the rest are empty
 --   Kept n names c moves    n names and c moves are those of a book
 use Rattle.std.specs.Prelude.{◌≡◌, ℕ, ◌<◌, ◌≤◌, true, false, List, [], length}
 use Rattle.words.specs.Sets.{Below, most_latches}

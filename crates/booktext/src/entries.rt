@@ -1,10 +1,10 @@
 //! The lines of books and errands, one at a time.
 ghost use Rattle.std.specs.Prelude.{◌≡◌, ◌≤◌, [], map, length, IfOk, codes};
-ghost use Rattle.words.specs.Sets.{Below, most-latches};
+ghost use Rattle.words.specs.Sets.{Below, most_latches};
 ghost use Rattle.book.specs.Places.{name_of};
-ghost use Rattle.format.specs.Reader.{got, value as line-value, entry as line-entry};
-ghost use Rattle.format.specs.Said.{items_of, positions-of, Told};
-ghost use Rattle.format.specs.Values.{only, number as numbered, position as positioned, new-name, latch as latched, item-list, positions as all-positions};
+ghost use Rattle.format.specs.Reader.{got, value as line_value, entry as line_entry};
+ghost use Rattle.format.specs.Said.{items_of, positions_of, Told};
+ghost use Rattle.format.specs.Values.{only, number as numbered, position as positioned, new_name, latch as latched, item_list, positions as all_positions};
 ghost use Rattle.booktext.specs.At.{at};
 
 use crate::bytes::{behind, cut_at, is_same};

@@ -1,12 +1,12 @@
 //! Lists of items: what a move asks, and what an errand wants.
 ghost use Rattle.std.specs.Prelude.{◌≡◌, ◌<◌, ◌≤◌, map, length, MatchOption, MatchResult};
 ghost use Rattle.std.proofs.Math.Option.{none, some};
-ghost use Rattle.words.specs.Sets.{Below, most-latches};
+ghost use Rattle.words.specs.Sets.{Below, most_latches};
 ghost use Rattle.book.specs.Places.{name_of};
 ghost use Rattle.format.specs.Bytes.{parts};
 ghost use Rattle.format.specs.Reader.{fine, wrong};
-ghost use Rattle.format.specs.Said.{items_of, Unasked-from};
-ghost use Rattle.format.specs.Values.{ending as ended, item as itemized, items as all-items, item-list};
+ghost use Rattle.format.specs.Said.{items_of, UnaskedFrom};
+ghost use Rattle.format.specs.Values.{ending as ended, item as itemized, items as all_items, item_list};
 
 use crate::bytes::{cut_at, is_same};
 use crate::names::find;

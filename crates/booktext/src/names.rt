@@ -1,7 +1,7 @@
 //! Finding a latch by its name.
 ghost use Rattle.std.specs.Prelude.{◌≡◌, ◌≤◌, map, length, MatchOption};
 ghost use Rattle.std.proofs.Math.Option.{none, some};
-ghost use Rattle.words.specs.Sets.{most-latches};
+ghost use Rattle.words.specs.Sets.{most_latches};
 ghost use Rattle.book.specs.Places.{name_of};
 ghost use Rattle.format.specs.Values.{find as found_at};
 

@@ -1,13 +1,13 @@
 //! The parts of a book, and the whole.
 ghost use Rattle.std.specs.Prelude.{◌≡◌, ◌≤◌, [], map, length, take, IfOk};
-ghost use Rattle.words.specs.Sets.{most-latches};
-ghost use Rattle.book.specs.Limits.{most-moves};
+ghost use Rattle.words.specs.Sets.{most_latches};
+ghost use Rattle.book.specs.Limits.{most_moves};
 ghost use Rattle.book.specs.Places.{name_of};
 ghost use Rattle.format.specs.Reader.{got};
-ghost use Rattle.format.specs.Reading.{latches as latches-read, rule as rule-read, rules as rules-read};
-ghost use Rattle.format.specs.Said.{rule-of, Told};
+ghost use Rattle.format.specs.Reading.{latches as latches_read, rule as rule_read, rules as rules_read};
+ghost use Rattle.format.specs.Said.{rule_of, Told};
 ghost use Rattle.booktext.specs.At.{at};
-ghost use Rattle.booktext.specs.Kept.{Named-until, Speaks-of, Moved-until};
+ghost use Rattle.booktext.specs.Kept.{NamedUntil, SpeaksOf, MovedUntil};
 
 use crate::lines::LineReader;
 use book::{Book, MOST_LATCHES, MOST_MOVES, Move, Name};

@@ -1,12 +1,12 @@
 //! What the values of lines mean: numbers and positions.
 ghost use Rattle.std.specs.Prelude.{◌≡◌, ◌<◌, ◌≤◌, [], MatchOption};
-ghost use Rattle.words.specs.Sets.{Below, most-latches};
+ghost use Rattle.words.specs.Sets.{Below, most_latches};
 ghost use Rattle.book.specs.Names.{same};
-ghost use Rattle.format.specs.declared.Fault.TheVariants.{Value as Bad-value};
+ghost use Rattle.format.specs.declared.Fault.TheVariants.{Value as BadValue};
 ghost use Rattle.format.specs.Bytes.{decimal};
 ghost use Rattle.format.specs.Reader.{fine, wrong};
-ghost use Rattle.format.specs.Said.{positions-of};
-ghost use Rattle.format.specs.Values.{number as numbered, position as positioned, positions as all-positions};
+ghost use Rattle.format.specs.Said.{positions_of};
+ghost use Rattle.format.specs.Values.{number as numbered, position as positioned, positions as all_positions};
 
 use crate::bytes::is_same;
 use words::LatchSet;

@@ -1,12 +1,12 @@
 //! Whole texts.
 ghost use Rattle.std.specs.Prelude.{◌≡◌, ◌<◌, ◌≤◌, true, false, [], length, IfOk, Ok, MatchResult, ◌==◌, nat_lt};
-ghost use Rattle.book.specs.declared.book.Book.{Book as Any-book};
-ghost use Rattle.book.specs.declared.errand.Errand.{Errand as Any-errand};
+ghost use Rattle.book.specs.declared.book.Book.{Book as AnyBook};
+ghost use Rattle.book.specs.declared.errand.Errand.{Errand as AnyErrand};
 ghost use Rattle.format.specs.declared.Fault.TheVariants.{Line, Length};
 ghost use Rattle.format.specs.Reader.{got};
-ghost use Rattle.format.specs.Reading.{book as book-read, errand as errand-read, most_bytes, read-book, read-errand};
-ghost use Rattle.format.specs.Said.{contents, contents-of, errand-contents-of, reading-of, Told};
-ghost use Rattle.format.specs.Texts.{text_of, errand-text-of, Has-one-text};
+ghost use Rattle.format.specs.Reading.{book as book_read, errand as errand_read, most_bytes, read_book, read_errand};
+ghost use Rattle.format.specs.Said.{contents, contents_of, errand_contents_of, reading_of, Told};
+ghost use Rattle.format.specs.Texts.{text_of, errand_text_of, HasOneText};
 ghost use Rattle.booktext.specs.At.{at};
 ghost use Rattle.booktext.specs.Kept.{Kept};
 

@@ -2,12 +2,12 @@
 --   Item              a latch and the position that is asked of it
 --   Rule              a move: the latch thrown, to where, and what is asked
 --   Contents          the names of a book's latches and its moves, in their order
---   ErrandContents   the contents of a book, the start and what is wanted
+--   ErrandContents    the contents of a book, the start and what is wanted
 --   Distinct xs       no two of the names xs are the same
 --   Rising low n xs   the items xs name latches from low up to below n, in rising order
 --   Own n r           the move r speaks of the latches below n alone
 --   Well p            p can be the contents of a book with a latch
---   WellErrand e     e can be the contents of an errand of such a book
+--   WellErrand e      e can be the contents of an errand of such a book
 use Rattle.std.specs.Prelude.{◌≡◌, ℕ, suc, ◌<◌, ◌≤◌, Bool, true, List, [], ◌∷◌, length, ◌≢◌}
 use Rattle.std.specs.List.{AllByRecursion as All}
 use Rattle.words.specs.Sets.{most_latches}

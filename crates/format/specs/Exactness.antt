@@ -1,7 +1,7 @@
 -- The theorems: reading accepts exactly the texts of books with a latch, so that each such book has exactly one text. The same of errands.
 --   Exact           a text is accepted exactly when it is the text of a book; what is read is that book; its text is within the limit
---   OneText        contents have one text, and a text one contents
---   ExactErrands   the same as Exact, of errands
+--   OneText         contents have one text, and a text one contents
+--   ExactErrands    the same as Exact, of errands
 use Rattle.std.specs.Prelude.{◌≡◌, ◌≤◌, length}
 use Rattle.format.specs.Bytes.{Bytes}
 use Rattle.format.specs.Contents.{Contents, Well, ErrandContents, WellErrand}

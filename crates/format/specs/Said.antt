@@ -1,6 +1,6 @@
 -- What a book and an errand say, as they are kept. Assumes nothing.
 --   items_of p                      the items that the partial setting p stands for
---   UnaskedFrom n p                p asks nothing of the latches from n on
+--   UnaskedFrom n p                 p asks nothing of the latches from n on
 --   positions_of n s                the positions of n latches, those in s at 1
 --   rule_of m                       what the move m says
 --   contents n names m moves        what n names and m moves say

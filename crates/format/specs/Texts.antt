@@ -1,7 +1,7 @@
 -- The texts of books and errands as they are kept. Assumes nothing.
 --   text_of b           the text of the book b
 --   errand_text_of e    the text of the errand e
---   HasOneText b      b has a text, within the limit, and no other text; no other book with a latch has it
+--   HasOneText b        b has a text, within the limit, and no other text; no other book with a latch has it
 use Rattle.std.specs.Prelude.{◌≡◌, ◌≤◌, length}
 use Rattle.book.specs.declared.book.Book.{Book}
 use Rattle.book.specs.declared.errand.Errand.{Errand}

@@ -1,7 +1,7 @@
 //! The text format of books and errands: its faults, and the theorem that reading accepts exactly the texts of books and errands.
 ghost use Rattle.std.specs.Prelude.{◌≡◌};
-ghost use Rattle.format.specs.Exactness.{Exact, One-text, Exact-errands};
-ghost use Rattle.format.specs.Reading.{fault-number, most_bytes};
+ghost use Rattle.format.specs.Exactness.{Exact, OneText, ExactErrands};
+ghost use Rattle.format.specs.Reading.{fault_number, most_bytes};
 
 /// What can be wrong with a text.
 #[derive(Clone, Copy, PartialEq, Eq, Debug)]

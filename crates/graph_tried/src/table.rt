@@ -1,5 +1,5 @@
 //! Graphs as tables.
-ghost use Rattle.graph_tried.specs.Tables.{table-arc};
+ghost use Rattle.graph_tried.specs.Tables.{table_arc};
 
 use graph::Graph;
 use words::{LatchSet, MOST_LATCHES};

@@ -10,7 +10,7 @@
 --   relay_counts p       the pulse counts of its latches, latch 0 first
 --   counted ns i         the counts after one more pulse at latch i
 --   count_at ns i        the count of latch i
---   CoilsOf p i o       o has the coils of latch i, if there is one: its position and its count
+--   CoilsOf p i o        o has the coils of latch i, if there is one: its position and its count
 --   flip_setting of f    the setting of a flip panel over a panel whose setting `of` tells
 use Rattle.std.specs.Prelude.{◌≡◌, ℕ, ◌+◌, min, Bool, true, false, cond, List, length, Some, None, Option, MatchOption, nat_lt, slice_index, slice_index_or, slice_set}
 use Rattle.words.specs.Sets.{has}

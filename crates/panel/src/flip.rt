@@ -1,9 +1,9 @@
 //! Flip panels: a panel seen through a mask.
 ghost use Rattle.std.specs.Prelude.{◌≡◌};
 ghost use Rattle.panel.specs.Settings.{within?, thrown};
-ghost use Rattle.panel.specs.Kinds.{flip-setting};
+ghost use Rattle.panel.specs.Kinds.{flip_setting};
 ghost use Rattle.std.proofs.Common.{arith};
-ghost use Rattle.panel.specs.Masks.{length-flipped};
+ghost use Rattle.panel.specs.Masks.{length_flipped};
 
 use super::Panel;
 use words::LatchSet;

@@ -2,9 +2,9 @@
 ghost use Rattle.std.specs.Prelude.{◌≡◌};
 ghost use Rattle.words.specs.Sets.{has};
 ghost use Rattle.panel.specs.Settings.{row, thrown, made};
-ghost use Rattle.panel.specs.Kinds.{register-setting};
+ghost use Rattle.panel.specs.Kinds.{register_setting};
 ghost use Rattle.std.proofs.Common.{arith};
-ghost use Rattle.panel.specs.Rows.{length-row};
+ghost use Rattle.panel.specs.Rows.{length_row};
 
 use super::Panel;
 use super::width::Width;

@@ -2,9 +2,9 @@
 ghost use Rattle.std.specs.Prelude.{◌≡◌, ℕ, ◌≤◌, replicate};
 ghost use Rattle.words.specs.Bit.{set?};
 ghost use Rattle.panel.specs.Settings.{widest, row, clamped, made, within?, thrown};
-ghost use Rattle.panel.specs.Kinds.{coil-at, up?, resting, pulsed, coils-at, relay-setting, relay-counts, counted, count_at, Coils-of};
+ghost use Rattle.panel.specs.Kinds.{coil_at, up?, resting, pulsed, coils_at, relay_setting, relay_counts, counted, count_at, CoilsOf};
 ghost use Rattle.std.proofs.Common.{arith};
-ghost use Rattle.panel.specs.Rows.{length-row};
+ghost use Rattle.panel.specs.Rows.{length_row};
 
 use super::Panel;
 use super::width::{WIDEST, Width};

@@ -1,9 +1,9 @@
 //! Board panels: a bool for each latch.
 ghost use Rattle.std.specs.Prelude.{◌≡◌};
 ghost use Rattle.panel.specs.Settings.{row, clamped};
-ghost use Rattle.panel_tried.specs.Boards.{place, board-setting};
+ghost use Rattle.panel_tried.specs.Boards.{place, board_setting};
 ghost use Rattle.std.proofs.Common.{arith};
-ghost use Rattle.panel.specs.Rows.{length-row};
+ghost use Rattle.panel.specs.Rows.{length_row};
 
 use panel::Panel;
 use panel::width::{WIDEST, Width};

@@ -1,6 +1,6 @@
 -- Recipes as the planner keeps them. Assumes nothing.
 --   Splits t s                          of the latches of t, those in s are splitting
---   KeepsOne s kept                    the latches in s have a kept recipe to 1, and no others
+--   KeepsOne s kept                     the latches in s have a kept recipe to 1, and no others
 --   Helps t v m s                       the latches in s are the helpers of m, a move of v
 --   before latches i                    the first i latches of a list, the last of them first
 --   no_recipe                           an empty place for a recipe
@@ -8,7 +8,7 @@
 --   recipe_at x table u                 the recipe of u to x
 --   Lengths kept table                  each recipe has the length of the one kept
 --   Short latches k table               the recipes of the latch at each place i before k have at most 3 ^ i moves
---   StandsFor t v placed c r           c is r, a recipe of v behind the latches of placed: its move, its helpers and its length
+--   StandsFor t v placed c r            c is r, a recipe of v behind the latches of placed: its move, its helpers and its length
 --   recipe_by t kept v placed c         the recipe of v by the move of c, behind the latches of placed
 --   Made t kept v placed x n c          c is the recipe of v to x, and has at most n moves
 --   Chosen t kept v placed x n o        the recipe of v to x, if some move serves, has at most n moves; o is that recipe

@@ -1,9 +1,9 @@
 //! What is said of an errand.
 ghost use Rattle.std.specs.Prelude.{◌≡◌};
-ghost use Rattle.theory.specs.Class.{in-class?};
+ghost use Rattle.theory.specs.Class.{in_class?};
 ghost use Rattle.theory.specs.Judgement.{judgement};
-ghost use Rattle.theory.specs.Route.{no-way?};
-ghost use Rattle.planner.specs.Errands.{errand-task, Says};
+ghost use Rattle.theory.specs.Route.{no_way?};
+ghost use Rattle.planner.specs.Errands.{errand_task, Says};
 
 use crate::normal::normal_task;
 use book::Errand;

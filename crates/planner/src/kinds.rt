@@ -1,11 +1,11 @@
 //! The kinds of latch: which are static, and which are reversible.
 ghost use Rattle.std.specs.Prelude.{◌≡◌, ℕ, true, ◌||◌, Decides, ◌==◌};
 ghost use Rattle.words.specs.Sets.{Below};
-ghost use Rattle.theory.specs.Class.{thrown?, static?, same-ask?, reverse?, reversible?};
+ghost use Rattle.theory.specs.Class.{thrown?, static?, same_ask?, reverse?, reversible?};
 ghost use Rattle.theory.specs.Searches.{some_of};
 ghost use Rattle.theory.specs.Tasks.{Task};
 ghost use Rattle.planner.specs.Asks.{asks_of};
-ghost use Rattle.planner.specs.Tasks.{move-of, moves_of, task-of};
+ghost use Rattle.planner.specs.Tasks.{move_of, moves_of, task_of};
 
 use crate::edges::is_asked;
 use crate::task::{NormalMove, NormalTask};

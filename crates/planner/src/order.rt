@@ -3,8 +3,8 @@ mod list;
 
 ghost use Rattle.std.specs.Prelude.{◌≡◌, ℕ, List};
 ghost use Rattle.theory.specs.Order.{order};
-ghost use Rattle.planner.specs.Tasks.{task-of};
-ghost use Rattle.planner.specs.Orders.{Members, Placed-next, order-of};
+ghost use Rattle.planner.specs.Tasks.{task_of};
+ghost use Rattle.planner.specs.Orders.{Members, PlacedNext, order_of};
 
 use crate::task::NormalTask;
 use book::MOST_LATCHES;

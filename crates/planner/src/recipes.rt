@@ -3,16 +3,16 @@ mod recipe;
 mod table;
 
 ghost use Rattle.std.specs.Prelude.{◌≡◌, ℕ, ◌+◌, ◌^◌, ◌<◌, ◌≤◌, true, false, List, length as length-of};
-ghost use Rattle.words.specs.Sets.{most-latches, Below};
-ghost use Rattle.theory.specs.Recipes.{Table, none_kept, serves?, recipe-parts, opened, table_of};
-ghost use Rattle.theory.specs.Order.{order as order-meant};
+ghost use Rattle.words.specs.Sets.{most_latches, Below};
+ghost use Rattle.theory.specs.Recipes.{Table, none_kept, serves?, recipe_parts, opened, table_of};
+ghost use Rattle.theory.specs.Order.{order as order_meant};
 ghost use Rattle.theory.specs.Route.{kept_table};
 ghost use Rattle.theory.specs.Tasks.{Move, Task, asks?};
 ghost use Rattle.planner.specs.declared.task.NormalTask.{NormalTask as Normal};
 ghost use Rattle.planner.specs.Asks.{asks_of};
-ghost use Rattle.planner.specs.Orders.{order-of};
-ghost use Rattle.planner.specs.Tasks.{move-of, task-of};
-ghost use Rattle.planner.specs.RecipesKept.{Splits, Keeps-one, Helps, Lengths, Short, Chosen, Held, Elsewhere, Tabled, before, kept-last};
+ghost use Rattle.planner.specs.Orders.{order_of};
+ghost use Rattle.planner.specs.Tasks.{move_of, task_of};
+ghost use Rattle.planner.specs.RecipesKept.{Splits, KeepsOne, Helps, Lengths, Short, Chosen, Held, Elsewhere, Tabled, before, kept_last};
 
 use crate::edges::is_asked;
 use crate::order::Order;

@@ -1,8 +1,8 @@
 //! Tasks in normal form: all latches start at 0.
 ghost use Rattle.std.specs.Prelude.{◌≡◌, ℕ, ◌<◌, ◌≤◌, true, not, length};
-ghost use Rattle.words.specs.Sets.{most-latches, has, Below};
-ghost use Rattle.book.specs.Limits.{most-moves};
-ghost use Rattle.planner.specs.Places.{move-at};
+ghost use Rattle.words.specs.Sets.{most_latches, has, Below};
+ghost use Rattle.book.specs.Limits.{most_moves};
+ghost use Rattle.planner.specs.Places.{move_at};
 
 use book::{MOST_MOVES, PartialSetting};
 

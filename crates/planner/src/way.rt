@@ -1,7 +1,7 @@
 //! Whether there is a way.
 ghost use Rattle.std.specs.Prelude.{◌≡◌};
-ghost use Rattle.theory.specs.Route.{no-way?};
-ghost use Rattle.planner.specs.Tasks.{task-of};
+ghost use Rattle.theory.specs.Route.{no_way?};
+ghost use Rattle.planner.specs.Tasks.{task_of};
 
 use crate::task::NormalTask;
 

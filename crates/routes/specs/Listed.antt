@@ -1,7 +1,7 @@
 -- What is true of the table of a route. Assumes nothing.
 --   route_numbers t          the moves of the route of t, by number
 --   entry_numbers s e        the moves of the recipe of an entry, by number
---   PlacedIn order n es     each of the first n entries has a place of the order
+--   PlacedIn order n es      each of the first n entries has a place of the order
 --   Listed s n es            the recipes of the first n entries, one after another, are the route
 use Rattle.std.specs.Prelude.{◌≡◌, ℕ, ◌<◌, List, take, slice_index_or}
 use Rattle.std.specs.List.{flat_map}

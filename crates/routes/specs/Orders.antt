@@ -1,6 +1,6 @@
 -- The order of latches as the planner keeps it. Assumes nothing.
 --   Members s vs         the set s and the list vs have the same latches
---   PlacedNext t vs o   o is the lowest latch that can be placed next behind those of vs, if there is one
+--   PlacedNext t vs o    o is the lowest latch that can be placed next behind those of vs, if there is one
 --   order_of o           the latches of o in order
 use Rattle.std.specs.Prelude.{◌≡◌, ℕ, List, take, Option, MatchOption}
 use Rattle.std.proofs.Math.Option.{none, some}

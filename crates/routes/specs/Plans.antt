@@ -2,7 +2,7 @@
 --   errand_task r s named wanted      the errand of two sets in normal form
 --   refusal names class none          why there is no route, if there is none: whether the sets name aright, the task is in the class, no way is said
 --   Planned r s named wanted o        o is the refusal of these tests, or the rules' route
---   LeadsThere r s named wanted p    the errand names aright and is in the class, and the route p leads to where it is met
+--   LeadsThere r s named wanted p     the errand names aright and is in the class, and the route p leads to where it is met
 --   Says r s named wanted o           what o says, of the book's own moves, from the start as it stands
 use Rattle.std.specs.Prelude.{◌≡◌, Bool, true, false, Ok, Err, Result}
 use Rattle.std.proofs.Math.Option.{Option, none, some}

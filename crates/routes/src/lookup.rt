@@ -2,9 +2,9 @@
 mod place;
 
 ghost use Rattle.std.specs.Prelude.{◌≡◌, ◌<◌, ◌≤◌, length, slice_index};
-ghost use Rattle.routes.specs.RecipesKept.{recipe-at};
-ghost use Rattle.routes.specs.Made.{latch-at, recipe-numbers};
-ghost use Rattle.routes.specs.Lookup.{nth, in-turn, Sought};
+ghost use Rattle.routes.specs.RecipesKept.{recipe_at};
+ghost use Rattle.routes.specs.Made.{latch_at, recipe_numbers};
+ghost use Rattle.routes.specs.Lookup.{nth, in_turn, Sought};
 
 use crate::order::Order;
 use crate::recipes::{Recipe, Recipes};

@@ -3,8 +3,8 @@ mod list;
 
 ghost use Rattle.std.specs.Prelude.{◌≡◌, ℕ, List};
 ghost use Rattle.theory.specs.Order.{order};
-ghost use Rattle.tasks.specs.Tasks.{task-of};
-ghost use Rattle.routes.specs.Orders.{Members, Placed-next, order-of};
+ghost use Rattle.tasks.specs.Tasks.{task_of};
+ghost use Rattle.routes.specs.Orders.{Members, PlacedNext, order_of};
 
 use book::MOST_LATCHES;
 pub(crate) use list::Order;

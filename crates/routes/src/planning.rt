@@ -1,8 +1,8 @@
 //! From a book, a start and an errand to a route, or to why there is none.
 ghost use Rattle.std.specs.Prelude.{◌≡◌};
-ghost use Rattle.theory.specs.Route.{no-way?};
-ghost use Rattle.tasks.specs.Asks.{rules-of, setting-of};
-ghost use Rattle.tasks.specs.Tasks.{task-of};
+ghost use Rattle.theory.specs.Route.{no_way?};
+ghost use Rattle.tasks.specs.Asks.{rules_of, setting_of};
+ghost use Rattle.tasks.specs.Tasks.{task_of};
 ghost use Rattle.routes.specs.Plans.{Planned, Says};
 
 use crate::recipes::Recipes;

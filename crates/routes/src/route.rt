@@ -6,12 +6,12 @@ mod table;
 ghost use Rattle.std.specs.Prelude.{◌≡◌, ℕ, ◌+◌, ◌*◌, ◌^◌, ◌<◌, ◌≤◌, true, ◌&&◌, [], length as length-of, take};
 ghost use Rattle.std.specs.List.{flat_map};
 ghost use Rattle.words.specs.Sets.{has};
-ghost use Rattle.routes.specs.Limits.{most-entries};
-ghost use Rattle.theory.specs.Class.{in-class?};
-ghost use Rattle.theory.specs.Route.{entries as entries-meant};
-ghost use Rattle.tasks.specs.Tasks.{task-of};
-ghost use Rattle.routes.specs.Laid.{parts-of, Placed, rest, size, Puts, Extends};
-ghost use Rattle.routes.specs.Listed.{entry-numbers, route-numbers};
+ghost use Rattle.routes.specs.Limits.{most_entries};
+ghost use Rattle.theory.specs.Class.{in_class?};
+ghost use Rattle.theory.specs.Route.{entries as entries_meant};
+ghost use Rattle.tasks.specs.Tasks.{task_of};
+ghost use Rattle.routes.specs.Laid.{parts_of, Placed, rest, size, Puts, Extends};
+ghost use Rattle.routes.specs.Listed.{entry_numbers, route_numbers};
 ghost use Rattle.routes.specs.Lookup.{nth};
 ghost use Rattle.routes.specs.Routes.{moves_of};
 

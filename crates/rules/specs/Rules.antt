@@ -8,10 +8,10 @@
 --   thrown s m         what m leaves
 --   Throws r k s e     the move numbered k is in the book, is legal on s, and leaves e
 --   Leads r ks s e     the moves numbered ks, each legal on what those before it leave, lead from s to e
---   MetBy w s         each latch stands in s as w wants
+--   MetBy w s          each latch stands in s as w wants
 --   Way r s w          some list of legal moves leads from s to a setting that meets w
---   RulesWithin r     the moves throw, and ask of, the book's own latches only
---   ErrandWithin r w  the errand speaks of the book's own latches only
+--   RulesWithin r      the moves throw, and ask of, the book's own latches only
+--   ErrandWithin r w   the errand speaks of the book's own latches only
 use Rattle.std.specs.Prelude.{◌≡◌, ℕ, ◌<◌, Bool, false, ◌≢◌, List, [], ◌∷◌, slice_index_or, slice_set}
 use Rattle.std.proofs.Math.Option.{some}
 use Rattle.std.proofs.Math.ListN.{get_elem?}

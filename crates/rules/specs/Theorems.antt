@@ -1,10 +1,10 @@
 -- The theorems about books, starts and errands as they stand. Assumes nothing.
 --   Normal r s w           the task of r, s and w is well-formed, has the same lists of legal moves, and is met where w is
 --   Fitting P              P holds of every book that exists, every start with its number of latches, and every errand of its latches
---   NormalFormIsRight   normal form says of a book what the book says
---   RouteLeads            in the class, if no way is not said, the route leads from the start to where the errand is met
---   NoWayIsNone         in the class, no way is said exactly when there is none
---   LengthIsBounded      in the class, the route has at most as many moves as the bound for the book's number of latches
+--   NormalFormIsRight      normal form says of a book what the book says
+--   RouteLeads             in the class, if no way is not said, the route leads from the start to where the errand is met
+--   NoWayIsNone            in the class, no way is said exactly when there is none
+--   LengthIsBounded        in the class, the route has at most as many moves as the bound for the book's number of latches
 use Rattle.std.specs.Prelude.{◌≡◌, ℕ, ◌≤◌, true, false, ◌↔◌, List, map, length}
 use Rattle.theory.specs.Tasks as tasks
 use Rattle.theory.specs.Tasks.{Move, WellFormed, all_zero, Run, Meets}

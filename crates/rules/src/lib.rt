@@ -3,8 +3,8 @@ mod refusal;
 
 ghost use Rattle.std.specs.Prelude.{◌≡◌, false, [], ◌∷◌};
 ghost use Rattle.rules.specs.NormalForm.{exchanged, route};
-ghost use Rattle.rules.specs.Theorems.{Normal-form-is-right, Route-leads, No-way-is-none, Length-is-bounded};
-ghost use Rattle.rules.specs.Worked.{book-g, learn, Worked};
+ghost use Rattle.rules.specs.Theorems.{NormalFormIsRight, RouteLeads, NoWayIsNone, LengthIsBounded};
+ghost use Rattle.rules.specs.Worked.{book_g, learn, Worked};
 
 pub use refusal::Refusal;
 

@@ -1,6 +1,6 @@
 //! Why a call is declined.
 ghost use Rattle.std.specs.Prelude.{◌≡◌};
-ghost use Rattle.rules.specs.Refusals.{refusal-number};
+ghost use Rattle.rules.specs.Refusals.{refusal_number};
 
 /// Why a call is declined. Texts are refused by faults of their own, numbered from 1 to 6.
 #[derive(Clone, Copy, PartialEq, Eq, Debug)]

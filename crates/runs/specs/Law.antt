@@ -4,11 +4,11 @@
 --   Throwing r turn x     a granted step or nudge throws its move, legally, and no other call changes the panel
 --   Goes_on r w s i x     a step of the run along the route from s to w, made with i steps granted before it
 --   Finishes r turn x     each step of a run is granted and is the next of the route, and the last one leaves the errand met
---   WhileIdle x          a step and a stop are refused, and nothing is refused because of a run
---   WhileUnderWay x     an aim and a nudge are refused, and a stop is granted
---   InTurn turn x        the one or the other, by the turn
---   AimRefused           what each refusal of an aim means
---   NudgeRefused         what each refusal of a nudge means, and that a legal move is thrown
+--   WhileIdle x           a step and a stop are refused, and nothing is refused because of a run
+--   WhileUnderWay x       an aim and a nudge are refused, and a stop is granted
+--   InTurn turn x         the one or the other, by the turn
+--   AimRefused            what each refusal of an aim means
+--   NudgeRefused          what each refusal of a nudge means, and that a legal move is thrown
 --   Refuses r turn x      an aim or a nudge made while idle is refused so
 --   Along P turn xs       P holds of each call seen, with the turn in which it was made; the first was made in turn
 --   Chained s xs e        each call finds the panel as the one before left it; the first finds s, and the last leaves e

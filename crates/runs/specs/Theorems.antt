@@ -1,7 +1,7 @@
 -- The theorems on whole runs. Assumes nothing.
 --   Lawful r s calls     what is seen of these calls is of these calls, and keeps the law
---   RunsKeepTheLaw    it is so for every book that exists, every panel, fitting or not, and every list of calls
---   TestsAreMeant      the tests of the model say what is meant
+--   RunsKeepTheLaw       it is so for every book that exists, every panel, fitting or not, and every list of calls
+--   TestsAreMeant        the tests of the model say what is meant
 use Rattle.std.specs.Prelude.{◌≡◌, true, ◌↔◌, List, map, length}
 use Rattle.words.specs.declared.LatchSet.{LatchSet}
 use Rattle.theory.specs.Searches.{In}

@@ -2,7 +2,7 @@
 //! proved of a model of the sequencer; the function here carries it.
 ghost use Rattle.std.specs.Prelude.{◌≡◌};
 ghost use Rattle.runs.specs.Calls.{granted?};
-ghost use Rattle.runs.specs.Theorems.{Runs-keep-the-law, Tests-are-meant};
+ghost use Rattle.runs.specs.Theorems.{RunsKeepTheLaw, TestsAreMeant};
 
 use rules::Refusal;
 use words::LatchSet;

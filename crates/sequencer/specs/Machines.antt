@@ -3,7 +3,7 @@
 --   model_of m s                    the machine with a panel at the setting s
 --   Shows shown s                   a panel at s shows this
 --   moved call answer               the number of the move that a call so answered throws, if it throws one
---   BelowCount n o                 such a move is one of the first n
+--   BelowCount n o                  such a move is one of the first n
 --   Does shown call m m' answer     the machine m answers as the model does, and becomes m', as the model does
 --   found_or o, done_or o           an aim and a nudge that are granted or declined, as answers
 use Rattle.std.specs.Prelude.{◌≡◌, ℕ, ◌<◌, false, length, IfSome, Some, None, Ok, Err, Option, Result, slice_index_or}

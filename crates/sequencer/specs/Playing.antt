@@ -1,7 +1,7 @@
 -- Whole runs of calls on a new sequencer. Assumes nothing.
 --   answer_of x                       the answer that was seen
 --   played n m                        how many calls are played: as many as there are, and as there is room for answers
---   WholeRun r s calls answers e     the calls, made one after another on a new sequencer with a panel at s, are answered so, leave the panel at e,
+--   WholeRun r s calls answers e      the calls, made one after another on a new sequencer with a panel at s, are answered so, leave the panel at e,
 --                                     and keep the law
 use Rattle.std.specs.Prelude.{◌≡◌, ℕ, min, List, map}
 use Rattle.rules.specs.Rules.{Rules, Setting}

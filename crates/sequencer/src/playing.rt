@@ -1,9 +1,9 @@
 //! Whole runs: a list of calls on a new sequencer.
 ghost use Rattle.std.specs.Prelude.{◌≡◌, ◌≤◌, map, length, take, drop};
-ghost use Rattle.tasks.specs.Asks.{rules-of};
+ghost use Rattle.tasks.specs.Asks.{rules_of};
 ghost use Rattle.runs.specs.Model.{seen, last};
 ghost use Rattle.sequencer.specs.Machines.{model_of};
-ghost use Rattle.sequencer.specs.Playing.{answer-of, played, Whole-run};
+ghost use Rattle.sequencer.specs.Playing.{answer_of, played, WholeRun};
 
 use crate::sequencer::Sequencer;
 use book::Book;

@@ -1,12 +1,12 @@
 //! A sequencer: a book and a panel, and the run that is under way.
 ghost use Rattle.std.specs.Prelude.{◌≡◌, ◌<◌};
 ghost use Rattle.std.proofs.Math.ListN.{get_elem?};
-ghost use Rattle.tasks.specs.Asks.{rules-of};
+ghost use Rattle.tasks.specs.Asks.{rules_of};
 ghost use Rattle.runs.specs.declared.Call.TheVariants.{Aim, Step, Nudge, Stop};
-ghost use Rattle.runs.specs.Model.{new, answered, after, thrown-by};
-ghost use Rattle.runs.specs.Views.{running?, steps-done, steps-left, peeked};
-ghost use Rattle.sequencer.specs.Machines.{model_of, Shows, found-or, done-or};
-ghost use Rattle.sequencer.specs.Sequencers.{threw-or};
+ghost use Rattle.runs.specs.Model.{new, answered, after, thrown_by};
+ghost use Rattle.runs.specs.Views.{running?, steps_done, steps_left, peeked};
+ghost use Rattle.sequencer.specs.Machines.{model_of, Shows, found_or, done_or};
+ghost use Rattle.sequencer.specs.Sequencers.{threw_or};
 
 use crate::machine::{Machine, Shown, moved};
 use crate::thrown::Thrown;

@@ -1,8 +1,8 @@
 //! The class of a task: circles in its causal graph, and the two sides of a latch.
 ghost use Rattle.std.specs.Prelude.{◌≡◌, ℕ, true, not, ◌&&◌, ◌||◌};
 ghost use Rattle.words.specs.Sets.{has};
-ghost use Rattle.theory.specs.Class.{edge?, acyclic?, static?, reversible?, dependent?, cut?, link?, side?, splitting?, in-class?};
-ghost use Rattle.tasks.specs.Tasks.{task-of};
+ghost use Rattle.theory.specs.Class.{edge?, acyclic?, static?, reversible?, dependent?, cut?, link?, side?, splitting?, in_class?};
+ghost use Rattle.tasks.specs.Tasks.{task_of};
 
 use crate::task::NormalTask;
 use graph::{Graph, reached, reached_from};

@@ -4,7 +4,7 @@ ghost use Rattle.words.specs.Sets.{has};
 ghost use Rattle.theory.specs.Class.{edge?, dependent?};
 ghost use Rattle.theory.specs.Tasks.{asks?};
 ghost use Rattle.tasks.specs.Asks.{asks_of};
-ghost use Rattle.tasks.specs.Tasks.{task-of};
+ghost use Rattle.tasks.specs.Tasks.{task_of};
 
 use crate::task::NormalTask;
 use book::PartialSetting;

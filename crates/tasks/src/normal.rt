@@ -1,13 +1,13 @@
 //! Bringing a book, a start and an errand to normal form.
 ghost use Rattle.std.specs.Prelude.{◌≡◌, ℕ, ◌<◌, ◌≤◌, true, false, ◌&&◌, [], map, length, take, MatchOption};
-ghost use Rattle.words.specs.Sets.{most-latches, has, Below};
-ghost use Rattle.book.specs.Limits.{most-moves};
-ghost use Rattle.book.specs.Settings.{nothing-asked};
-ghost use Rattle.theory.specs.Tasks.{Well-formed};
-ghost use Rattle.rules.specs.Naming.{Names, errand-of};
-ghost use Rattle.rules.specs.NormalForm.{exchanged, exchanged-ask, normal-move as rule-in-normal-form, dropped?, task};
-ghost use Rattle.tasks.specs.Asks.{asks_of, rule-of, rules-of, setting-of};
-ghost use Rattle.tasks.specs.Tasks.{move-of, task-of};
+ghost use Rattle.words.specs.Sets.{most_latches, has, Below};
+ghost use Rattle.book.specs.Limits.{most_moves};
+ghost use Rattle.book.specs.Settings.{nothing_asked};
+ghost use Rattle.theory.specs.Tasks.{WellFormed};
+ghost use Rattle.rules.specs.Naming.{Names, errand_of};
+ghost use Rattle.rules.specs.NormalForm.{exchanged, exchanged_ask, normal_move as rule_in_normal_form, dropped?, task};
+ghost use Rattle.tasks.specs.Asks.{asks_of, rule_of, rules_of, setting_of};
+ghost use Rattle.tasks.specs.Tasks.{move_of, task_of};
 
 use crate::task::{NormalMove, NormalTask};
 use book::{Book, MOST_MOVES, Move, PartialSetting};

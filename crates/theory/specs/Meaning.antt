@@ -10,7 +10,7 @@
 --   Connected t x v a b a is b, or links lead from a to b
 --   Side t x v u        u is connected to a latch that depends on v at x
 --   Splitting t v       no latch is on both sides of v
---   InClass t          acyclic, and every latch static, reversible or splitting
+--   InClass t           acyclic, and every latch static, reversible or splitting
 use Rattle.std.specs.Prelude.{◌≡◌, ℕ, ◌<◌, Bool, true, false, not, ◌≢◌, ◌⊎◌}
 use Rattle.graph.specs.Walks.{Walk}
 use Rattle.theory.specs.Searches.{In}

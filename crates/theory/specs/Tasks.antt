@@ -8,7 +8,7 @@
 --   ask_against x     the ask for the position opposite to x
 --   Move              a number, the latch thrown, its target, and an ask of each latch
 --   Task              how many latches there are, the moves, and what is wanted of each latch
---   WellFormed t     moves and want speak of the task's latches only, and a move asks its own latch at the opposite of its target
+--   WellFormed t      moves and want speak of the task's latches only, and a move asks its own latch at the opposite of its target
 --   Setting           how each latch stands
 --   all_zero          the start
 --   put s v x         s with the latch v at x

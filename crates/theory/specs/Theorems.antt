@@ -1,8 +1,8 @@
 -- The theorems about tasks in normal form. Assumes nothing.
---   ClassIsMeant      the test of the class passes exactly when the task is in the class in plain terms
---   RouteDoesErrand   the route of a task in the class, if no way is not said, runs from all-0 to where every latch stands as wanted
---   NoWayIsRight     in the class, no way is said exactly when there is none
---   RouteIsShort      a route of n latches has at most longest n moves, and with up to the most latches its length fits 64 bits
+--   ClassIsMeant        the test of the class passes exactly when the task is in the class in plain terms
+--   RouteDoesErrand     the route of a task in the class, if no way is not said, runs from all-0 to where every latch stands as wanted
+--   NoWayIsRight        in the class, no way is said exactly when there is none
+--   RouteIsShort        a route of n latches has at most longest n moves, and with up to the most latches its length fits 64 bits
 use Rattle.std.specs.Prelude.{◌≡◌, ◌^◌, ◌<◌, ◌≤◌, true, false, ◌↔◌, length}
 use Rattle.words.specs.Sets.{most_latches}
 use Rattle.theory.specs.Tasks.{Task, WellFormed, Setting, all_zero, Run, Meets, Way}

@@ -1,8 +1,8 @@
 //! Tasks in normal form: the class 3S, recipes and routes, defined in specs/ and proved right. The functions here carry the theorems.
 ghost use Rattle.std.specs.Prelude.{◌≡◌};
-ghost use Rattle.theory.specs.Bound.{longest-route};
+ghost use Rattle.theory.specs.Bound.{longest_route};
 ghost use Rattle.theory.specs.Judgement.{judgement};
-ghost use Rattle.theory.specs.Theorems.{Class-is-meant, Route-does-errand, No-way-is-right, Route-is-short};
+ghost use Rattle.theory.specs.Theorems.{ClassIsMeant, RouteDoesErrand, NoWayIsRight, RouteIsShort};
 
 use words::MOST_LATCHES;
 

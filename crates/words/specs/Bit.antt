@@ -1,9 +1,9 @@
 -- Single bits of a word, numbered from the lowest. Assumes nothing.
 --   bit w i              bit i of w as a number, 0 or 1
 --   set? w i             bit i of w is 1
---   AllClear w          no bit of w is set
---   AllClearFrom n w   no bit of w from n on is set
---   LowestBit w o       o is the lowest bit of w that is set, if there is one
+--   AllClear w           no bit of w is set
+--   AllClearFrom n w     no bit of w from n on is set
+--   LowestBit w o        o is the lowest bit of w that is set, if there is one
 use Rattle.std.specs.Prelude.{◌≡◌, ℕ, ◌/◌, ◌%◌, ◌^◌, ◌<◌, Bool, true, false, Option, MatchOption, ◌==◌}
 
 -- bit i of w

@@ -1,6 +1,6 @@
 //! Single bits of a 32-bit word, numbered from the lowest.
 ghost use Rattle.std.specs.Prelude.{◌≡◌, ℕ, ◌<◌, not, ◌&&◌, ◌||◌, Decides, ◌==◌, nat_lt};
-ghost use Rattle.words.specs.Bit.{set?, All-clear, All-clear-from, Lowest-bit};
+ghost use Rattle.words.specs.Bit.{set?, AllClear, AllClearFrom, LowestBit};
 
 /// Whether bit `i` is set.
 pub(crate) fn test(word: u32, i: u8) -> bool

@@ -2,7 +2,7 @@
 mod bits;
 
 ghost use Rattle.std.specs.Prelude.{◌≡◌, ℕ, Decides};
-ghost use Rattle.words.specs.Sets.{has, has-with, has-without, has_either, has-minus, Empty, Below, Lowest};
+ghost use Rattle.words.specs.Sets.{has, has_with, has_without, has_either, has_minus, Empty, Below, Lowest};
 
 /// How many latches there can be.
 pub const MOST_LATCHES: u8 = 32;

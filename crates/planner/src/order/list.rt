@@ -1,6 +1,6 @@
 //! Latches one behind another.
 ghost use Rattle.std.specs.Prelude.{◌≡◌, ℕ, ◌≤◌, length, slice_index};
-ghost use Rattle.words.specs.Sets.{most-latches};
+ghost use Rattle.words.specs.Sets.{most_latches};
 
 use book::MOST_LATCHES;
 

@@ -1,6 +1,6 @@
 //! What is kept of each latch.
 ghost use Rattle.std.specs.Prelude.{◌≡◌, length};
-ghost use Rattle.words.specs.Sets.{most-latches};
+ghost use Rattle.words.specs.Sets.{most_latches};
 
 use crate::recipes::recipe::Recipe;
 use book::MOST_LATCHES;

@@ -1,6 +1,6 @@
 //! The recipes of a task.
 ghost use Rattle.std.specs.Prelude.{true, false};
-ghost use Rattle.tasks.specs.Tasks.{task-of};
+ghost use Rattle.tasks.specs.Tasks.{task_of};
 ghost use Rattle.routes.specs.RecipesKept.{Splits};
 ghost use Rattle.routes.specs.Made.{Orders, Members, Counts, Within, Helpers, Opens};
 

@@ -1,6 +1,6 @@
 //! The entries of a route.
 ghost use Rattle.std.specs.Prelude.{◌≡◌, ◌≤◌, length};
-ghost use Rattle.routes.specs.Limits.{most-entries};
+ghost use Rattle.routes.specs.Limits.{most_entries};
 
 use crate::route::entry::Entry;
 use book::MOST_LATCHES;

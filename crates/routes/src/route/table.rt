@@ -1,6 +1,6 @@
 //! The table of a route.
 ghost use Rattle.std.specs.Prelude.{◌≡◌, length as length-of};
-ghost use Rattle.routes.specs.Listed.{Placed-in, Listed, route-numbers};
+ghost use Rattle.routes.specs.Listed.{PlacedIn, Listed, route_numbers};
 
 use crate::recipes::Recipes;
 use crate::route::entries::Entries;
