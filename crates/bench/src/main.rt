@@ -1,5 +1,7 @@
 //! The bench: reads an errand text from the file that is named, or from standard input, and prints whether there is a way and what it read,
 //! or by which number and at which line it refuses.
+#![tactic(auto)]
+
 mod said;
 
 use book::{Book, Errand};

@@ -1,4 +1,6 @@
 //! Books of moves as values: names of latches, partial settings, moves, books and errands.
+#![tactic(auto)]
+
 mod asking;
 mod blank;
 mod book;

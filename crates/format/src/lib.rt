@@ -1,4 +1,6 @@
 //! The text format of books and errands: its faults, and the theorem that reading accepts exactly the texts of books and errands.
+#![tactic(auto)]
+
 ghost use Rattle.std.specs.Prelude.{◌≡◌};
 ghost use Rattle.format.specs.Exactness.{Exact, OneText, ExactErrands};
 ghost use Rattle.format.specs.Reading.{fault_number, most_bytes};

@@ -1,4 +1,6 @@
 //! What is reached in a graph whose nodes are latches.
+#![tactic(auto)]
+
 mod search;
 
 ghost use Rattle.std.specs.Prelude.{ℕ};

@@ -1,4 +1,6 @@
 //! Panels of 1 to 32 latches: what every kind of panel promises, and three kinds.
+#![tactic(auto)]
+
 pub mod flip;
 pub mod register;
 pub mod relay;

@@ -1,4 +1,6 @@
 //! The planner: from an errand to what is said of it.
+#![tactic(auto)]
+
 mod class;
 mod edges;
 mod judged;

@@ -1,4 +1,6 @@
 //! The planner: from a book, a start and an errand to a route, its length, and the move at each of its places.
+#![tactic(auto)]
+
 mod lookup;
 mod order;
 mod planning;

@@ -1,4 +1,6 @@
 //! Books, starts and errands as they stand, and their normal form, which the theory's theorems speak of; and why calls are declined.
+#![tactic(auto)]
+
 mod refusal;
 
 ghost use Rattle.std.specs.Prelude.{◌≡◌, false, [], ◌∷◌};

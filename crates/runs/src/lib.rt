@@ -1,5 +1,7 @@
 //! What a caller asks of a sequencer and what it is answered, and the law that whole runs of calls keep. The law is defined in specs/ and
 //! proved of a model of the sequencer; the function here carries it.
+#![tactic(auto)]
+
 ghost use Rattle.std.specs.Prelude.{◌≡◌};
 ghost use Rattle.runs.specs.Calls.{granted?};
 ghost use Rattle.runs.specs.Theorems.{RunsKeepTheLaw, TestsAreMeant};

@@ -1,4 +1,6 @@
 //! The sequencer: aims, steps, nudges and stops over any panel, and the law of whole runs.
+#![tactic(auto)]
+
 mod machine;
 mod playing;
 mod sequencer;

@@ -1,4 +1,6 @@
 //! Tasks in normal form: a book, a start and an errand as the planner keeps them, and their class.
+#![tactic(auto)]
+
 mod class;
 mod edges;
 mod kinds;

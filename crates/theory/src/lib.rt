@@ -1,4 +1,6 @@
 //! Tasks in normal form: the class 3S, recipes and routes, defined in specs/ and proved right. The functions here carry the theorems.
+#![tactic(auto)]
+
 ghost use Rattle.std.specs.Prelude.{◌≡◌};
 ghost use Rattle.theory.specs.Bound.{longest_route};
 ghost use Rattle.theory.specs.Judgement.{judgement};

@@ -1,4 +1,6 @@
 //! Tests by example of what the other crates do.
+#![tactic(auto)]
+
 #[cfg(test)]
 mod judgements;
 #[cfg(test)]

@@ -1,4 +1,6 @@
 //! Sets of latches 0 to 31, each set one 32-bit word.
+#![tactic(auto)]
+
 mod bits;
 
 ghost use Rattle.std.specs.Prelude.{◌≡◌, ℕ, Decides};
