@@ -20,14 +20,14 @@ pub trait Graph {
 
 /// The nodes that zero or more arcs lead to from a node of `from`.
 pub fn reached<G: Graph>(graph: &G, from: LatchSet) -> LatchSet
-    ensures { Exactly result (Reached (arc graph.now) from) }
+    ensures { Exactly result (Reached (G.arc graph.now) from) }
 {
     search::onward(graph, from)
 }
 
 /// The nodes that one or more arcs lead to from `node`.
 pub fn reached_from<G: Graph>(graph: &G, node: u8) -> LatchSet
-    ensures { Exactly result (Walk (arc graph.now) node) }
+    ensures { Exactly result (Walk (G.arc graph.now) node) }
 {
     search::onward(graph, graph.neighbours(node))
 }

@@ -8,8 +8,8 @@ use words::LatchSet;
 /// The nodes of `from` and all that arcs lead on to. Where `from` is the neighbours of a node, these are the nodes
 /// that walks from that node lead to.
 pub(crate) fn onward<G: Graph>(graph: &G, from: LatchSet) -> LatchSet
-    ensures reached { Exactly result (Reached (arc graph.now) from) }
-    ensures walked { (u : ℕ) → Exactly from (arc graph.now u) → Exactly result (Walk (arc graph.now) u) }
+    ensures reached { Exactly result (Reached (G.arc graph.now) from) }
+    ensures walked { (u : ℕ) → Exactly from (G.arc graph.now u) → Exactly result (Walk (G.arc graph.now) u) }
 {
     let mut seen = from;
     let mut done = LatchSet::EMPTY;

@@ -26,5 +26,5 @@ loop-node-preserved g c = visited c.loop-node.invariant (visit g c)
 
 pub returns : goal.returns
 returns g c =
-    let all = ended c.loop-node.invariant (λ v. sym (c.difference.ensures v) ∙ c.in-default.ensures v) in
+    let all = ended c.loop-node.invariant (λ v. sym (c.difference.ensures v) ∙ c.in_default.ensures v) in
     record { reached = all; walked = λ u. reached_walk c.args.from c.loop-node.seen u all }
