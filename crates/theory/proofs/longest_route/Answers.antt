@@ -3,4 +3,4 @@ use Rattle.theory.proofs.Theorems.{route_is_short}
 use Rattle.theory.proofs.longest_route.Goals as goal
 
 pub returns : goal.returns
-returns c = record { answer = c.most-moves.ensures; short = route_is_short }
+returns c = record { answer = c.most_moves.ensures; short = route_is_short }

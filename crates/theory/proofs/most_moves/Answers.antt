@@ -5,8 +5,8 @@ use Rattle.theory.proofs.most_moves.Goals as goal
 pub pow-requires : goal.pow-requires
 pow-requires c = let less = three_pow_le (c.args.latches - 1) 31 (omega arith) in omega arith
 
-pub overflow-mul-result : goal.overflow-mul-result
-overflow-mul-result c = let less = three_pow_le (c.args.latches - 1) 31 (omega arith) in omega arith
+pub overflow_mul-result : goal.overflow_mul-result
+overflow_mul-result c = let less = three_pow_le (c.args.latches - 1) 31 (omega arith) in omega arith
 
-pub overflow-sub-result : goal.overflow-sub-result
-overflow-sub-result c = let some = three_pow_le 0 (c.args.latches - 1) (omega arith) in omega arith
+pub overflow_sub-result : goal.overflow_sub-result
+overflow_sub-result c = let some = three_pow_le 0 (c.args.latches - 1) (omega arith) in omega arith

@@ -19,8 +19,8 @@ loop-latch-preserved c =
           subst (PassedUntil (l.latch + 1) test) (sym w.ones-is) (none_more test l.latch l.ones (sym w.if-asks-one.ensures) l.invariant)
     ]
 
-pub invariant-of-result : goal.invariant-of-result
-invariant-of-result c = (ones_named c.args.asked c.args.start c.loop-latch.ones c.loop-latch.latch c.loop-latch.invariant, tt)
+pub invariant_of-result : goal.invariant_of-result
+invariant_of-result c = (ones_named c.args.asked c.args.start c.loop-latch.ones c.loop-latch.latch c.loop-latch.invariant, tt)
 
 pub returns : goal.returns
 returns c =

@@ -13,11 +13,11 @@ use Rattle.routes.specs.Made.{numbers}
 use Rattle.routes.proofs.Judging.{first_misnamed, then_outside, then_no_way, then_route}
 use Rattle.routes.proofs.planning.planned.Goals as goal
 
-pub returns-in-default : goal.returns-in-default
-returns-in-default c =
+pub returns-in_default : goal.returns-in_default
+returns-in_default c =
     let b = c.args.book.now in
     first_misnamed (rules_of b) (book_within b) (setting_of b.latches c.args.start) (setting_length b.latches c.args.start) c.args.named c.args.wanted
-    c.in-default.ensures _ _
+    c.in_default.ensures _ _
 
 pub returns-then-not-is-in-class : goal.returns-then-not-is-in-class
 returns-then-not-is-in-class c =

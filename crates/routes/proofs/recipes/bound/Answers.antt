@@ -2,8 +2,8 @@ use Rattle.std.proofs.Common.{true, false}
 use Rattle.routes.proofs.Unrolled.{counts, within, helpers, opens}
 use Rattle.routes.proofs.recipes.bound.Goals as goal
 
-pub invariant-of-result : goal.invariant-of-result
-invariant-of-result c =
+pub invariant_of-result : goal.invariant_of-result
+invariant_of-result c =
     let t = c.args.task in
     let o = c.args.order in
     let table = c.args.table in

@@ -13,8 +13,8 @@ bounds-table-latch c = below_all c.args.helpers.word 32 (omega arith) (omega ari
 pub bounds-table-latch-then-contains : goal.bounds-table-latch-then-contains
 bounds-table-latch-then-contains c = below_all c.args.helpers.word 32 (omega arith) (omega arith) _ (sym c.if-contains.ensures)
 
-pub overflow-add-length : goal.overflow-add-length
-overflow-add-length c =
+pub overflow_add-length : goal.overflow_add-length
+overflow_add-length c =
     omega (
       arith,
       c.requires.1 c.loop-k.k c.loop-k-test.true true,
@@ -22,8 +22,8 @@ overflow-add-length c =
       powers_fit c.loop-k.k (omega (arith, c.requires.0, c.args.order.now.room, c.loop-k-test.true)),
     )
 
-pub overflow-add-length-then-contains : goal.overflow-add-length-then-contains
-overflow-add-length-then-contains c =
+pub overflow_add-length-then-contains : goal.overflow_add-length-then-contains
+overflow_add-length-then-contains c =
     omega (
       arith,
       c.loop-k.invariant.0,

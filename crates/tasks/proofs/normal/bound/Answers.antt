@@ -2,8 +2,8 @@ use Rattle.std.proofs.Common.{◌≤◌, length, arith}
 use Rattle.tasks.proofs.NormalFormTasks.{place_own, place_within, place_asks_own, place_wanted}
 use Rattle.tasks.proofs.normal.bound.Goals as goal
 
-pub invariant-of-result : goal.invariant-of-result
-invariant-of-result c =
+pub invariant_of-result : goal.invariant_of-result
+invariant_of-result c =
     let width = c.args.width in
     let count = c.args.count in
     let moves = c.args.moves in

@@ -1,7 +1,7 @@
 use Rattle.std.proofs.Common.{◌∙◌, arith}
 use Rattle.tasks.proofs.NormalFormTasks.{Brought, Read, book_read, read_latch, turn_dropped, turn_kept, all_brought, brought_task, brought_bound}
 use Rattle.tasks.proofs.normal.normal_task.Goals as goal
-use Rattle.tasks.proofs.normal.normal_task.Goals.{After-m-item, After-normal-asks, in-Some, in-default}
+use Rattle.tasks.proofs.normal.normal_task.Goals.{After-m-item, After-normal-asks, in-Some, in_default}
 
 -- the move of this turn stands in the book
 read : (c : After-m-item) → Read c.args.book.now c.loop-number.number c.m-item.result
@@ -18,9 +18,9 @@ loop-number-preserved c =
       | in-Some w ↦
           turn_kept c.args.book.now c.args.start l.number l.count l.moves l.invariant c.m-item.result here _ _ _ _ w.count-is w.moves-is
           (omega (arith, here.0, c.args.book.now.room)) w.in-Some.ensures.0 w.in-Some.ensures.1
-      | in-default w ↦
+      | in_default w ↦
           turn_dropped c.args.book.now c.args.start l.number l.count l.moves l.invariant c.m-item.result here _ _ w.count-is w.moves-is
-          w.in-default.ensures
+          w.in_default.ensures
     ]
 
 -- all moves are brought to normal form

@@ -7,8 +7,8 @@ use Rattle.planner.proofs.task.NormalTask.in_order.Goals as goal
 pub loop-count-init : goal.loop-count-init
 loop-count-init c = none_placed (task_of c.args.self.now)
 
-pub returns-in-default : goal.returns-in-default
-returns-in-default c = none_next c.loop-count.invariant (c.in-default.ensures _ c.loop-count.invariant.members)
+pub returns-in_default : goal.returns-in_default
+returns-in_default c = none_next c.loop-count.invariant (c.in_default.ensures _ c.loop-count.invariant.members)
 
 pub loop-count-preserved : goal.loop-count-preserved
 loop-count-preserved c =

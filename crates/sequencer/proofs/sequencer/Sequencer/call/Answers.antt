@@ -23,8 +23,8 @@ returns-in-Some g c =
       book = ap (λ (x : Machine). x.book) c.throw.ensures.machine ∙ does.book;
     }
 
-pub returns-in-default : goal.returns-in-default
-returns-in-default g c =
+pub returns-in_default : goal.returns-in_default
+returns-in_default g c =
     let m = c.args.self.now.machine in
     let s = g.P.Panel.setting c.args.self.now.panel in
     let does = c.call-answer.ensures in
@@ -32,6 +32,6 @@ returns-in-default g c =
       answer = does.answered_so s c.shown-shown.ensures;
       model =
           model_after c.shown-shown.result c.args.call m c.call-answer.new.self _ c.call-answer.result s s c.shown-shown.ensures does refl
-          (sym (setting_kept (rules_of m.book) s c.args.call c.call-answer.result (sym c.in-default.ensures)));
+          (sym (setting_kept (rules_of m.book) s c.args.call c.call-answer.result (sym c.in_default.ensures)));
       book = does.book;
     }

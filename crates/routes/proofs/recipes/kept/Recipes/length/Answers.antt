@@ -6,8 +6,8 @@ use Rattle.routes.proofs.recipes.kept.Recipes.length.Goals as goal
 pub recipe-length-requires : goal.recipe-length-requires
 recipe-length-requires c = entry_placed c.args.entries.now c.args.self.now.order.count c.loop-entry.entry-index c.requires.0 c.loop-entry-test.true
 
-pub overflow-add-length : goal.overflow-add-length
-overflow-add-length c =
+pub overflow_add-length : goal.overflow_add-length
+overflow_add-length c =
     let es = c.args.entries.now in
     let s = c.args.self.now in
     let i = c.loop-entry.entry-index in

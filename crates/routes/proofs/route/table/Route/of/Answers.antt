@@ -8,7 +8,7 @@ length-length-requires c = (
   subst (λ (ks : List ℕ). length ks < 2 ^ 64) (listed c.args.recipes c.entries-entries.result c.entries-entries.ensures.parts) (route_fits c.args.recipes.task c.requires),
 )
 
-pub invariant-of-result : goal.invariant-of-result
-invariant-of-result c =
+pub invariant_of-result : goal.invariant_of-result
+invariant_of-result c =
     let same = listed c.args.recipes c.entries-entries.result c.entries-entries.ensures.parts in
     (c.entries-entries.ensures.placed, (same, (c.length-length.ensures ∙ sym (ap length same), tt)))

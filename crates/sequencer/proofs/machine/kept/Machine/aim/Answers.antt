@@ -15,30 +15,30 @@ use Rattle.sequencer.proofs.machine.kept.Machine.aim.Goals as goal
 pub returns-then-shown-self : goal.returns-then-shown-self
 returns-then-shown-self c = aim_misfit c.args.self.now c.requires c.args.shown c.args.named c.args.wanted c.if-shown-self.true
 
-pub returns-in-err-route : goal.returns-in-err-route
-returns-in-err-route c =
+pub returns-in_err-route : goal.returns-in_err-route
+returns-in_err-route c =
     let p = err_from_is_err_and c.from-residual.result c.from-residual.ensures.1 in
     let m = c.args.self.now in
     subst (λ (a : Answer). Does c.args.shown (Aim c.args.named c.args.wanted) m m a) (sym (ap found_or p.1))
     (aim_refused m c.requires c.args.shown c.args.named c.args.wanted c.if-shown-self.false p.0
     (subst (λ (e : Refusal). Planned (rules_of m.book) (setting_of m.book.latches c.args.shown.raised) c.args.named c.args.wanted (Err e)) (sym p.2)
-    c.in-err-route.ensures.answer))
+    c.in_err-route.ensures.answer))
 
-pub invariant-of-self : goal.invariant-of-self
-invariant-of-self c =
-    let ks = moves_of c.in-ok-route.route in
+pub invariant_of-self : goal.invariant_of-self
+invariant_of-self c =
+    let ks = moves_of c.in_ok-route.route in
     let all : 0 + c.length-length.result ≡ length ks = omega (arith, c.length-length.ensures) in (
       subst (λ (n : ℕ). more? c.onward-self.result n ≡ true) all c.onward-self.ensures.more,
       (
         route_own c.args.self.now.book (setting_of c.args.self.now.book.latches c.args.shown.raised) c.args.named c.args.wanted
-            c.in-ok-route.route c.in-ok-route.ensures.says,
+            c.in_ok-route.route c.in_ok-route.ensures.says,
         tt,
       ),
     )
 
 pub returns : goal.returns
 returns c =
-    let ks = moves_of c.in-ok-route.route in
-    aim_found c.args.self.now c.requires c.args.shown c.args.named c.args.wanted c.if-shown-self.false c.in-ok-route.route
-    c.in-ok-route.ensures.answer _ refl refl c.length-length.result c.length-length.ensures
+    let ks = moves_of c.in_ok-route.route in
+    aim_found c.args.self.now c.requires c.args.shown c.args.named c.args.wanted c.if-shown-self.false c.in_ok-route.route
+    c.in_ok-route.ensures.answer _ refl refl c.length-length.result c.length-length.ensures
     (c.onward-self.ensures.progress ks ∙ ap (going_on ks 0) c.length-length.ensures ∙ sym (opened_run ks (length ks)))

@@ -5,10 +5,10 @@ use Rattle.sequencer.proofs.Going.{more_left, next_there, step_does}
 use Rattle.sequencer.proofs.machine.kept.Machine.step.Goals as goal
 
 pub unreachable-requires : goal.unreachable-requires
-unreachable-requires c = c.in-default.not-Some _ (c.at.ensures ∙ next_there c.args.self.now c.args.done c.requires)
+unreachable-requires c = c.in_default.not-Some _ (c.at.ensures ∙ next_there c.args.self.now c.args.done c.requires)
 
-pub invariant-of-self : goal.invariant-of-self
-invariant-of-self c =
+pub invariant_of-self : goal.invariant_of-self
+invariant_of-self c =
     let m = c.args.self.now in
     let all : c.args.done + 1 + (c.length.result - (c.args.done + 1)) ≡ length (moves_of m.route) =
     omega (arith, c.length.ensures, more_left m c.args.done c.requires) in
