@@ -1,5 +1,5 @@
 -- Values with an invariant are equal where their data are.
-use Rattle.std.proofs.Common.{◌≡◌, ℕ, ◌<◌, ◌≤◌, Bool, true, false, cond, ◌⊎◌, List, [], ◌∷◌, map, length, get_or, take, sym, refl, ap, ◌∙◌, inl, inr, arith}
+use Rattle.std.proofs.Common.{◌≡◌, ℕ, ◌<◌, ◌≤◌, Bool, true, false, cond, List, [], ◌∷◌, map, length, get_or, take, sym, refl, ap, ◌∙◌, inl, inr, arith}
 use mathlib.Core.HLevel.{is_prop→PathP}
 use mathlib.Core.Option.{Option, none, some}
 use base.Stored.{Coded, coded_ℕ, coded_bool, coded×, coded_via}
@@ -127,7 +127,7 @@ book_same a b n x m y = λ i. record {
   own = is_prop→PathP (λ j. (k : ℕ) → k < m j → (move_at (y j) k).latch < n j) (λ j. hlevel props) a.own b.own i;
   asks = is_prop→PathP (λ j. (k : ℕ) → k < m j → Below (n j) (move_at (y j) k).when.named) (λ j. hlevel props) a.asks b.asks i;
   no_names = is_prop→PathP (λ j. (k : ℕ) → n j ≤ k → name_at (x j) k ≡ []) (λ j. hlevel props) a.no_names b.no_names i;
-  no_moves = is_prop→PathP (λ j. (k : ℕ) → m j ≤ k → move_at (y j) k ≡ no_move) (λ j. search (props, move_coded)) a.no_moves b.no_moves i;
+  no_moves = is_prop→PathP (λ j. (k : ℕ) → m j ≤ k → move_at (y j) k ≡ no_move) (λ j. hlevel (props, move_coded)) a.no_moves b.no_moves i;
 }
 
 pub errand_same : (a b : Errand) → a.book ≡ b.book → a.start ≡ b.start → a.want ≡ b.want → a ≡ b
