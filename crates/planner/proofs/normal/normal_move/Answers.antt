@@ -5,9 +5,9 @@ use Rattle.planner.proofs.normal.normal_move.Goals as goal
 
 pub returns : goal.returns
 returns c = (
-  sym c.if-asks-target.ensures,
+  sym c.if-asks_target.ensures,
   λ n below within.
-      move_normal c.args.m.now c.args.start c.in-normal-form-to.result c.normal-asks.result c.with-asks.result c.requires
-      (c.in-normal-form-to.ensures.answer ∙ ap (exchanged c.args.m.now.to) c.contains.ensures)
-      c.normal-asks.ensures c.with-asks.ensures n below within c.args.number,
+      move_normal c.args.m.now c.args.start c.in_normal_form-to.result c.normal_asks.result c.with-asks.result c.requires
+      (c.in_normal_form-to.ensures.answer ∙ ap (exchanged c.args.m.now.to) c.contains.ensures)
+      c.normal_asks.ensures c.with-asks.ensures n below within c.args.number,
 )

@@ -42,4 +42,4 @@ returns c kept right same =
     let t = c.args.task.now in
     let r : t.count ≤ length t.moves = omega (arith, t.room, t.places) in
     none_made t kept c.args.latch (before c.args.order.now.latches c.args.placed) c.args.to c.loop-place.place
-    (r, c.loop-place-test.false, c.loop-place.auto.place_end) (c.loop-place.invariant kept right)
+    (r, c.loop-place-test.false, c.loop-place.auto.place-end) (c.loop-place.invariant kept right)

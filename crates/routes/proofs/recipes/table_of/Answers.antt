@@ -5,15 +5,15 @@ use Rattle.routes.proofs.recipes.table_of.Goals as goal
 pub loop-placed-init : goal.loop-placed-init
 loop-placed-init c = (refl, refl, λ ups downs. none_tabled c.args.task.now c.args.order.now.latches _ refl refl refl refl)
 
-pub with-next-table-requires : goal.with-next-table-requires
-with-next-table-requires c = (c.loop-placed-test.true, (c.requires.0, (c.requires.1, c.loop-placed.invariant.2 _ _)))
+pub with_next-table-requires : goal.with_next-table-requires
+with_next-table-requires c = (c.loop-placed-test.true, (c.requires.0, (c.requires.1, c.loop-placed.invariant.2 _ _)))
 
 pub loop-placed-preserved : goal.loop-placed-preserved
 loop-placed-preserved c = (
-  c.with-next-table.result.ups,
-  c.with-next-table.result.downs,
+  c.with_next-table.result.ups,
+  c.with_next-table.result.downs,
   λ ups downs.
-      same_tabled c.args.task.now c.args.order.now.latches _ _ c.with-next-table.result _ refl refl refl refl c.with-next-table.ensures,
+      same_tabled c.args.task.now c.args.order.now.latches _ _ c.with_next-table.result _ refl refl refl refl c.with_next-table.ensures,
 )
 
 pub returns : goal.returns

@@ -23,5 +23,5 @@ returns c =
     let so_far = c.requires.1.1.1 in
     let kept = table_of (task_of t) (before o.latches k) in
     more_tabled t o.latches k c.args.table so_far inside fresh _ c.keep.ensures.elsewhere
-    (c.keep.ensures.held t kept (before o.latches k) (3 ^ k) (vacant t o.latches k c.args.table so_far inside fresh) c.is-asked.ensures
-    (c.recipe-of-one.ensures kept (so_far.members true) so_far.lengths) (c.recipe-of-zero.ensures kept (so_far.members true) so_far.lengths))
+    (c.keep.ensures.held t kept (before o.latches k) (3 ^ k) (vacant t o.latches k c.args.table so_far inside fresh) c.is_asked.ensures
+    (c.recipe_of-one.ensures kept (so_far.members true) so_far.lengths) (c.recipe_of-zero.ensures kept (so_far.members true) so_far.lengths))

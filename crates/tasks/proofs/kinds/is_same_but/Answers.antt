@@ -1,5 +1,5 @@
 use Rattle.std.proofs.Common.{◌≡◌, ℕ, sym, ap, ◌∙◌}
-use Rattle.std.proofs.lemmas.Bool.{both_ways}
+use Rattle.std.proofs.lemmas.Bool.{both_ways, eqb-true, eq-eqb}
 use Rattle.words.specs.declared.LatchSet.{LatchSet}
 use Rattle.words.specs.Sets.{has, has_without}
 use Rattle.words.specs.Bit.{set?}
@@ -20,11 +20,12 @@ returns-then-eq c = (
   λ t.
       alike_same c.args.latch c.args.p c.args.q
       (same-members c.args.p.named c.args.q.named c.without.result c.without-2.result c.args.latch c.without.ensures
-      c.without-2.ensures (c.eq.ensures.0 c.if-eq.true))
+      c.without-2.ensures (eqb-true _ _ (sym c.eq.ensures ∙ c.if-eq.true)))
       (same-members c.args.p.ones c.args.q.ones c.without-then-eq.result c.without-then-eq-2.result c.args.latch
-      c.without-then-eq.ensures c.without-then-eq-2.ensures (c.eq-then-eq.ensures.0 t)),
+      c.without-then-eq.ensures c.without-then-eq-2.ensures (eqb-true _ _ (sym c.eq-then-eq.ensures ∙ t))),
   λ h.
-      c.eq-then-eq.ensures.1
+      c.eq-then-eq.ensures
+      ∙ eq-eqb _ _
       (same_word c.args.p.ones c.args.q.ones c.without-then-eq.result c.without-then-eq-2.result c.args.latch
       c.without-then-eq.ensures c.without-then-eq-2.ensures (same_ones_sets c.args.latch c.args.p c.args.q h)),
 )
@@ -33,7 +34,8 @@ pub returns-else-eq : goal.returns-else-eq
 returns-else-eq c = (
   λ t. absurd (both_ways c.eq.result c.if-eq.false t),
   λ h.
-      c.eq.ensures.1
+      c.eq.ensures
+      ∙ eq-eqb _ _
       (same_word c.args.p.named c.args.q.named c.without.result c.without-2.result c.args.latch c.without.ensures
       c.without-2.ensures (same_named_sets c.args.latch c.args.p c.args.q h)),
 )

@@ -9,22 +9,14 @@ invariant_of-result c =
     let moves = c.args.moves in
     let want = c.args.want in
     let room : count ≤ length moves = omega (arith, c.requires.1.0, c.requires.1.1.0) in
-    let well = c.requires.1.1.1 in (
-      c.requires.0,
-      (
-        c.requires.1.0,
-        (
-          c.requires.1.1.0,
-          (
-            place_own width count moves want room well,
-            (
-              place_within width count moves want room well,
-              (
-                (λ k l. (place_asks_own width count moves want room well k l).0),
-                ((λ k l. (place_asks_own width count moves want room well k l).1), (place_wanted width count moves want room well, tt)),
-              ),
-            ),
-          ),
-        ),
-      ),
-    )
+    let well = c.requires.1.1.1 in
+    record {
+      narrow = c.requires.0;
+      room = c.requires.1.0;
+      places = c.requires.1.1.0;
+      own = place_own width count moves want room well;
+      within = place_within width count moves want room well;
+      asks_own = λ k l. (place_asks_own width count moves want room well k l).0;
+      opposite = λ k l. (place_asks_own width count moves want room well k l).1;
+      wanted = place_wanted width count moves want room well;
+    }

@@ -1,20 +1,20 @@
 use Rattle.std.proofs.Common.{◌∙◌, arith}
 use Rattle.tasks.proofs.NormalFormTasks.{Brought, Read, book_read, read_latch, turn_dropped, turn_kept, all_brought, brought_task, brought_bound}
 use Rattle.tasks.proofs.normal.normal_task.Goals as goal
-use Rattle.tasks.proofs.normal.normal_task.Goals.{After-m-item, After-normal-asks, in-Some, in_default}
+use Rattle.tasks.proofs.normal.normal_task.Goals.{After-m-item, After-normal_asks, in-Some, in_default}
 
 -- the move of this turn stands in the book
 read : (c : After-m-item) → Read c.args.book.now c.loop-number.number c.m-item.result
 read c = book_read c.args.book.now c.loop-number.number c.m-item.result c.loop-number-test.true c.m-item.is
 
-pub normal-move-requires : goal.normal-move-requires
-normal-move-requires c = read_latch c.args.book.now c.loop-number.number c.m-item.result (read c)
+pub normal_move-requires : goal.normal_move-requires
+normal_move-requires c = read_latch c.args.book.now c.loop-number.number c.m-item.result (read c)
 
 pub loop-number-preserved : goal.loop-number-preserved
 loop-number-preserved c =
     let l = c.loop-number in
     let here = read (goal.at.loop-number-preserved c).After-m-item in
-    elim c.match-normal-move.branch [
+    elim c.match-normal_move.branch [
       | in-Some w ↦
           turn_kept c.args.book.now c.args.start l.number l.count l.moves l.invariant c.m-item.result here _ _ _ _ w.count-is w.moves-is
           (omega (arith, here.0, c.args.book.now.room)) w.in-Some.ensures.0 w.in-Some.ensures.1
@@ -24,18 +24,18 @@ loop-number-preserved c =
     ]
 
 -- all moves are brought to normal form
-all : (c : After-normal-asks) → Brought c.args.book.now c.args.start c.args.book.now.count c.loop-number.count c.loop-number.moves
+all : (c : After-normal_asks) → Brought c.args.book.now c.args.start c.args.book.now.count c.loop-number.count c.loop-number.moves
 all c =
     let l = c.loop-number in
     all_brought c.args.book.now c.args.start l.number l.count l.moves l.invariant c.loop-number-test.false l.auto.number-end
 
 pub bound-requires : goal.bound-requires
 bound-requires c =
-    brought_bound c.args.book.now c.args.start c.args.want c.normal-asks.result c.loop-number.count c.loop-number.moves
-    (all c) c.requires c.normal-asks.ensures
+    brought_bound c.args.book.now c.args.start c.args.want c.normal_asks.result c.loop-number.count c.loop-number.moves
+    (all c) c.requires c.normal_asks.ensures
 
 pub returns : goal.returns
 returns c =
     c.bound.ensures
-    ∙ brought_task c.args.book.now c.args.start c.args.want c.normal-asks.result c.loop-number.count c.loop-number.moves
-    (all (goal.at.returns c).After-normal-asks) c.requires c.normal-asks.ensures
+    ∙ brought_task c.args.book.now c.args.start c.args.want c.normal_asks.result c.loop-number.count c.loop-number.moves
+    (all (goal.at.returns c).After-normal_asks) c.requires c.normal_asks.ensures

@@ -14,17 +14,17 @@ wanted-down r up asked s down e f a g = grind (arith, e, f, a, g)
 not-wanted : (r up s asked down : Bool) → r ≡ up → r ≡ true → s ≡ asked → s ≡ false → s ≡ (not up || (asked && not down))
 not-wanted r up s asked down e f a g = grind (arith, e, f, a, g)
 
-pub returns-then-not-is-thrown : goal.returns-then-not-is-thrown
+pub returns-then-not-is_thrown : goal.returns-then-not-is_thrown
 unfolding static?
-returns-then-not-is-thrown c = not-up c.is-thrown.result _ _ c.is-thrown.ensures c.if-not-is-thrown.true
+returns-then-not-is_thrown c = not-up c.is_thrown.result _ _ c.is_thrown.ensures c.if-not-is_thrown.true
 
-pub returns-then-is-asked : goal.returns-then-is-asked
+pub returns-then-is_asked : goal.returns-then-is_asked
 unfolding static?
-returns-then-is-asked c =
-    wanted-down c.is-thrown.result _ _ c.is-thrown-then-is-asked.result _ c.is-thrown.ensures c.if-not-is-thrown.false
-    (sym c.is-asked.ensures ∙ c.if-is-asked.true) c.is-thrown-then-is-asked.ensures
+returns-then-is_asked c =
+    wanted-down c.is_thrown.result _ _ c.is_thrown-then-is_asked.result _ c.is_thrown.ensures c.if-not-is_thrown.false
+    (sym c.is_asked.ensures ∙ c.if-is_asked.true) c.is_thrown-then-is_asked.ensures
 
-pub returns-else-is-asked : goal.returns-else-is-asked
+pub returns-else-is_asked : goal.returns-else-is_asked
 unfolding static?
-returns-else-is-asked c =
-    not-wanted c.is-thrown.result _ c.is-asked.result _ _ c.is-thrown.ensures c.if-not-is-thrown.false c.is-asked.ensures c.if-is-asked.false
+returns-else-is_asked c =
+    not-wanted c.is_thrown.result _ c.is_asked.result _ _ c.is_thrown.ensures c.if-not-is_thrown.false c.is_asked.ensures c.if-is_asked.false

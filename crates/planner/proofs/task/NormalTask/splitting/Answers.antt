@@ -5,7 +5,7 @@ use Rattle.planner.specs.Tasks.{task_of}
 use Rattle.planner.proofs.Found.{and_second}
 use Rattle.planner.proofs.NormalFormAsks.{PassedUntil, none_passed, one_passed, none_more}
 use Rattle.planner.proofs.task.NormalTask.splitting.Goals as goal
-use Rattle.planner.proofs.task.NormalTask.splitting.Goals.{then-is-splitting, else-is-splitting}
+use Rattle.planner.proofs.task.NormalTask.splitting.Goals.{then-is_splitting, else-is_splitting}
 
 pub loop-latch-init : goal.loop-latch-init
 loop-latch-init c = none_passed (splitting? (task_of c.args.self.now))
@@ -14,13 +14,13 @@ pub loop-latch-preserved : goal.loop-latch-preserved
 loop-latch-preserved c =
     let test = splitting? (task_of c.args.self.now) in
     let l = c.loop-latch in
-    elim c.if-is-splitting.branch [
-      | then-is-splitting w ↦
+    elim c.if-is_splitting.branch [
+      | then-is_splitting w ↦
           subst (PassedUntil (l.latch + 1) test) (sym w.found-is)
           (one_passed test l.latch l.found w.with-found.result (omega (arith, c.loop-latch-test.true, c.args.self.now.narrow))
-          (sym w.if-is-splitting.ensures) w.with-found.ensures l.invariant)
-      | else-is-splitting w ↦
-          subst (PassedUntil (l.latch + 1) test) (sym w.found-is) (none_more test l.latch l.found (sym w.if-is-splitting.ensures) l.invariant)
+          (sym w.if-is_splitting.ensures) w.with-found.ensures l.invariant)
+      | else-is_splitting w ↦
+          subst (PassedUntil (l.latch + 1) test) (sym w.found-is) (none_more test l.latch l.found (sym w.if-is_splitting.ensures) l.invariant)
     ]
 
 pub returns : goal.returns

@@ -5,8 +5,8 @@ use Rattle.tasks.specs.Tasks.{move_of, moves_of, task_of}
 use Rattle.tasks.proofs.Found.{Reads, found_passed, found_all, read_in, read_below}
 use Rattle.tasks.proofs.task.NormalTask.has_reverse.Goals as goal
 
-pub returns-then-is-reverse : goal.returns-then-is-reverse
-returns-then-is-reverse c =
+pub returns-then-is_reverse : goal.returns-then-is_reverse
+returns-then-is_reverse c =
     let read : Reads c.args.self.now.moves c.args.self.now.count c.loop-other.other-index c.other-item.result =
     (c.loop-other-test.true, c.other-item.is) in
     let below = read_below c.args.self.now.moves c.args.self.now.count c.loop-other.other-index c.args.self.now.width c.other-item.result
@@ -15,7 +15,7 @@ returns-then-is-reverse c =
     (some_of_from (reverse? (task_of c.args.self.now) c.args.latch (move_of c.args.m)) (moves_of c.args.self.now)
     (move_of c.other-item.result)
     (read_in c.args.self.now.moves c.args.self.now.count c.loop-other.other-index c.other-item.result read)
-    (sym (c.is-reverse.ensures (task_of c.args.self.now) c.requires below) ∙ c.if-is-reverse.true))
+    (sym (c.is_reverse.ensures (task_of c.args.self.now) c.requires below) ∙ c.if-is_reverse.true))
 
 pub loop-other-preserved : goal.loop-other-preserved
 loop-other-preserved c =
@@ -26,7 +26,7 @@ loop-other-preserved c =
     sym
     (found_passed (reverse? (task_of c.args.self.now) c.args.latch (move_of c.args.m)) c.args.self.now.moves
     c.args.self.now.count c.loop-other.other-index c.other-item.result false read (sym c.loop-other.invariant)
-    (sym (c.is-reverse.ensures (task_of c.args.self.now) c.requires below) ∙ c.if-is-reverse.false))
+    (sym (c.is_reverse.ensures (task_of c.args.self.now) c.requires below) ∙ c.if-is_reverse.false))
 
 pub returns : goal.returns
 returns c =

@@ -10,14 +10,14 @@ loop-latch-preserved c =
     let t = c.args.self.now in
     let u = c.loop-latch.latch in
     all_below_more (free? (task_of t)) u c.loop-latch.invariant
-    (not_from_false _ (sym (walk_found (task_of t) (well_formed t) u c.reached-from.result c.reached-from.ensures u) ∙ sym c.if-contains.ensures))
+    (not_from_false _ (sym (walk_found (task_of t) (well_formed t) u c.reached_from.result c.reached_from.ensures u) ∙ sym c.if-contains.ensures))
 
 pub returns-then-contains : goal.returns-then-contains
 returns-then-contains c =
     let t = c.args.self.now in
     let u = c.loop-latch.latch in
     sym (circle_cyclic (task_of t) u c.loop-latch-test.true
-    (not_from_true _ (sym (walk_found (task_of t) (well_formed t) u c.reached-from.result c.reached-from.ensures u) ∙ sym c.if-contains.ensures)))
+    (not_from_true _ (sym (walk_found (task_of t) (well_formed t) u c.reached_from.result c.reached_from.ensures u) ∙ sym c.if-contains.ensures)))
 
 pub returns : goal.returns
 returns c =

@@ -36,7 +36,7 @@ unfolding parts
 returns-in-Ok t c =
     let s = c.args.self.now in
     let r = c.recipe-recipe.result in
-    c.move-at.ensures
+    c.move_at.ensures
     ∙ sym (c.in-Ok.ensures.same ((move_at s.task.moves r.place).number ∷ helped s.task false r.helpers (in_turn s.order false c.args.place)))
     ∙ whole s c.args.place c.requires.0 c.args.to c.args.k c.requires.1 r c.recipe-recipe.ensures
 
@@ -77,7 +77,7 @@ returns-in-Ok-seek t c =
     let s = c.args.self.now in
     let r = c.recipe-recipe.result in
     let i = c.args.place in
-    c.move-at-in-Ok-seek.ensures ∙ sym (c.in-Ok-seek.ensures.same [])
+    c.move_at-in-Ok-seek.ensures ∙ sym (c.in-Ok-seek.ensures.same [])
     ∙ lower s i r c.in-Err.rest _ c.if-rest-eq0.false refl ∙ sym (c.in-Err.ensures (behind s i r))
     ∙ whole s i c.requires.0 c.args.to c.args.k c.requires.1 r c.recipe-recipe.ensures
 

@@ -13,13 +13,13 @@ returns-then-rest-length c =
     let x = c.args.to in
     let k = c.loop-turn.turn in
     let vs = in_turn s.order x c.args.placed in
-    let u = latch_at s.order c.place-at-place.result in
-    let same : u ≡ get_or vs k 0 = c.place-at-place.ensures.latch in
+    let u = latch_at s.order c.place_at-place.result in
+    let same : u ≡ get_or vs k 0 = c.place_at-place.ensures.latch in
     let count : c.recipe-length.result.length ≡ length (recipe_numbers s.task x u) = ap (λ (r : Recipe). r.length) c.recipe-length.ensures ∙ s.counts x u in
     let inside : c.loop-turn.rest < length (recipe_numbers s.task x u) = omega (arith, c.if-rest-length.true) in
     let below : k < length vs = omega (arith, turns s.order c.args.placed c.requires x, c.loop-turn-test.true) in
     record {
-      before = c.place-at-place.ensures.before;
+      before = c.place_at-place.ensures.before;
       inside = inside;
       same = λ ys.
           c.loop-turn.invariant ys
@@ -35,8 +35,8 @@ loop-turn-preserved c =
     let x = c.args.to in
     let k = c.loop-turn.turn in
     let vs = in_turn s.order x c.args.placed in
-    let u = latch_at s.order c.place-at-place.result in
-    let same : u ≡ get_or vs k 0 = c.place-at-place.ensures.latch in
+    let u = latch_at s.order c.place_at-place.result in
+    let same : u ≡ get_or vs k 0 = c.place_at-place.ensures.latch in
     let below : k < length vs = omega (arith, turns s.order c.args.placed c.requires x, c.loop-turn-test.true) in
     elim c.if-contains.branch [
       | then-contains+else-rest-length w ↦

@@ -13,13 +13,13 @@ use Rattle.routes.specs.Made.{latch_at}
 use Rattle.routes.proofs.Extending.{extends_empty, extends_end, extends_out, extends_plain, extends_split, size_next, size_others, size_sides}
 use Rattle.routes.proofs.Rests.{latch_within}
 use Rattle.routes.proofs.route.entries.Entries.+extend.Goals as goal
-use Rattle.routes.proofs.route.entries.Entries.+extend.Goals.{then-is-empty-via-then-is-empty, then-is-empty-via-else-is-empty+then-from-recipes, then-kept, else-kept, After-difference-2}
+use Rattle.routes.proofs.route.entries.Entries.+extend.Goals.{then-is_empty-via-then-is_empty, then-is_empty-via-else-is_empty+then-from-recipes, then-kept, else-kept, After-difference-2}
 
-pub returns-then-is-empty : goal.returns-then-is-empty
-returns-then-is-empty t c =
-    elim c.then-is-empty.branch [
-      | then-is-empty-via-then-is-empty w ↦ extends_empty c.args.recipes.now c.args.set c.args.from c.args.self.now (c.is-empty.ensures.0 w.if-is-empty.true)
-      | then-is-empty-via-else-is-empty+then-from-recipes w ↦ extends_end c.args.recipes.now c.args.set c.args.from c.args.self.now w.if-from-recipes.true
+pub returns-then-is_empty : goal.returns-then-is_empty
+returns-then-is_empty t c =
+    elim c.then-is_empty.branch [
+      | then-is_empty-via-then-is_empty w ↦ extends_empty c.args.recipes.now c.args.set c.args.from c.args.self.now (c.is_empty.ensures.0 w.if-is_empty.true)
+      | then-is_empty-via-else-is_empty+then-from-recipes w ↦ extends_end c.args.recipes.now c.args.set c.args.from c.args.self.now w.if-from-recipes.true
     ]
 
 pub extend-requires : goal.extend-requires
@@ -42,8 +42,8 @@ extend-requires-then-not-contains-2 t c =
     c.without-others.ensures in
     (omega (arith, c.decreases, c.if-from-recipes.false), (omega (arith, c.if-from-recipes.false), omega (arith, c.requires.1)))
 
-pub push-if-requires : goal.push-if-requires
-push-if-requires t c =
+pub push_if-requires : goal.push_if-requires
+push_if-requires t c =
     omega (
       arith,
       c.requires.1,
@@ -57,7 +57,7 @@ returns-then-not-contains-2 t c =
     let s = c.args.recipes.now in
     extends_plain s c.args.set c.args.from c.if-from-recipes.false (sym c.if-not-contains.ensures) c.without-others.result
     c.without-others.ensures c.args.self.now _ _ _ (splits s c.args.from c.if-from-recipes.false false c.if-not-contains-2.ensures)
-    c.is-asked.ensures c.extend-then-not-contains-2.ensures c.push-if.ensures
+    c.is_asked.ensures c.extend-then-not-contains-2.ensures c.push_if.ensures
 
 -- the others on a side
 on : (s : Recipes) (x : Bool) (v : ℕ) (others side set : LatchSet) → ((j : ℕ) → has set j ≡ (has others j && has side j)) →
@@ -104,21 +104,21 @@ extend-requires-3 t c =
     let l = c.if-from-recipes.false in
     (omega (arith, c.decreases), (omega arith, omega (arith, c.requires.1, c.extend-2.ensures.room, z.0, z.1)))
 
-pub push-if-requires-2 : goal.push-if-requires-2
-push-if-requires-2 t c =
-    let z = sizes t (goal.at.push-if-requires-2 t c).After-difference-2 in
+pub push_if-requires-2 : goal.push_if-requires-2
+push_if-requires-2 t c =
+    let z = sizes t (goal.at.push_if-requires-2 t c).After-difference-2 in
     omega (arith, c.requires.1, c.extend-2.ensures.room, c.extend-3.ensures.room, z.0, z.1)
 
 pub extend-requires-4 : goal.extend-requires-4
 extend-requires-4 t c =
     let z = sizes t (goal.at.extend-requires-4 t c).After-difference-2 in
     let l = c.if-from-recipes.false in
-    (omega (arith, c.decreases), (omega arith, omega (arith, c.requires.1, c.extend-2.ensures.room, c.extend-3.ensures.room, c.push-if-2.ensures.room, z.0, z.1)))
+    (omega (arith, c.decreases), (omega arith, omega (arith, c.requires.1, c.extend-2.ensures.room, c.extend-3.ensures.room, c.push_if-2.ensures.room, z.0, z.1)))
 
-pub push-if-requires-3 : goal.push-if-requires-3
-push-if-requires-3 t c =
-    let z = sizes t (goal.at.push-if-requires-3 t c).After-difference-2 in
-    omega (arith, c.requires.1, c.extend-2.ensures.room, c.extend-3.ensures.room, c.push-if-2.ensures.room, c.extend-4.ensures.room, z.0, z.1)
+pub push_if-requires-3 : goal.push_if-requires-3
+push_if-requires-3 t c =
+    let z = sizes t (goal.at.push_if-requires-3 t c).After-difference-2 in
+    omega (arith, c.requires.1, c.extend-2.ensures.room, c.extend-3.ensures.room, c.push_if-2.ensures.room, c.extend-4.ensures.room, z.0, z.1)
 
 pub returns : goal.returns
 returns t c =
@@ -126,15 +126,15 @@ returns t c =
     let l = c.if-from-recipes.false in
     let v = latch_at s.order c.args.from in
     let others = c.without-others.result in
-    let back : c.if-kept.push-if ≡ (c.contains-kept.result && asks? false (asks_of s.task.want v)) =
+    let back : c.if-kept.push_if ≡ (c.contains-kept.result && asks? false (asks_of s.task.want v)) =
     elim c.if-kept.branch [
-      | then-kept w ↦ w.push-if-is ∙ w.is-asked-then-kept.ensures ∙ ap (λ (b : Bool). b && asks? false (asks_of s.task.want v)) (sym w.if-kept.true)
-      | else-kept w ↦ w.push-if-is ∙ w.if-kept.false ∙ ap (λ (b : Bool). b && asks? false (asks_of s.task.want v)) (sym w.if-kept.false)
+      | then-kept w ↦ w.push_if-is ∙ w.is_asked-then-kept.ensures ∙ ap (λ (b : Bool). b && asks? false (asks_of s.task.want v)) (sym w.if-kept.true)
+      | else-kept w ↦ w.push_if-is ∙ w.if-kept.false ∙ ap (λ (b : Bool). b && asks? false (asks_of s.task.want v)) (sym w.if-kept.false)
     ] in
     extends_split s c.args.set c.args.from l (sym c.if-not-contains.ensures) others c.without-others.ensures c.both-zero.result
     c.both-one.result c.difference-2.result (splits s c.args.from l true c.if-not-contains-2.ensures)
     (on s false v others c.side.result c.both-zero.result c.both-zero.ensures c.side.ensures)
     (on s true v others c.side-2.result c.both-one.result c.both-one.ensures c.side-2.ensures)
     (off others c.both-zero.result c.both-one.result c.difference.result c.difference-2.result c.difference.ensures c.difference-2.ensures)
-    c.args.self.now _ _ _ _ _ _ _ (c.contains-kept.ensures ∙ s.members true v) back c.extend-2.ensures c.extend-3.ensures c.push-if-2.ensures
-    c.extend-4.ensures c.push-if-3.ensures
+    c.args.self.now _ _ _ _ _ _ _ (c.contains-kept.ensures ∙ s.members true v) back c.extend-2.ensures c.extend-3.ensures c.push_if-2.ensures
+    c.extend-4.ensures c.push_if-3.ensures

@@ -11,8 +11,8 @@ recipe-length-requires c =
 pub loop-entry-init : goal.loop-entry-init
 loop-entry-init c = ap (λ (ks : List ℕ). nth ks c.args.k) c.args.self.now.listed
 
-pub move-at-requires : goal.move-at-requires
-move-at-requires c =
+pub move_at-requires : goal.move_at-requires
+move_at-requires c =
     let r = c.args.self.now in
     let i = c.loop-entry.entry-index in (
       entry_placed r.entries r.recipes.order.count i r.placed c.loop-entry-test.true,
@@ -25,7 +25,7 @@ returns-then-rest-length c =
     let es = r.entries in
     let i = c.loop-entry.entry-index in
     let e = read_entry es i in
-    c.move-at.ensures
+    c.move_at.ensures
     ∙ sym (left_inside es.list es.count (entries_room es) (entry_numbers r.recipes) i e (c.loop-entry-test.true, refl) c.loop-entry.rest
     (omega (arith, c.if-rest-length.true, entry_counted r.recipes e c.recipe-length.result c.recipe-length.ensures)))
     ∙ sym c.loop-entry.invariant
