@@ -2,7 +2,7 @@
 mod recipe;
 mod table;
 
-ghost use Rattle.std.specs.Prelude.{◌≡◌, ℕ, ◌+◌, ◌^◌, ◌<◌, ◌≤◌, true, false, List, length as length-of};
+ghost use Rattle.std.specs.Prelude.{◌≡◌, ℕ, ◌+◌, ◌^◌, ◌<◌, ◌≤◌, true, false, List, length as length_of};
 ghost use Rattle.words.specs.Sets.{most_latches, Below};
 ghost use Rattle.theory.specs.Recipes.{Table, none_kept, serves?, recipe_parts, opened, table_of};
 ghost use Rattle.theory.specs.Order.{order as order_meant};
@@ -49,7 +49,7 @@ fn length(table: &RecipeTable, order: &Order, placed: u8, helpers: LatchSet) -> 
     requires { (placed ≤ order.now.count) × (Short order.now.latches placed table.now) }
     ensures short { result ≤ 3 ^ placed }
     ensures counted { (t : Task) (v : ℕ) (m : Move) (kept : Table) → Helps t v m helpers → Lengths kept table.now
-        → result ≡ length-of (opened kept (recipe_parts t v m (before order.now.latches placed))) }
+        → result ≡ length_of (opened kept (recipe_parts t v m (before order.now.latches placed))) }
 {
     let mut length: u64 = 1;
     for k in 0..placed {

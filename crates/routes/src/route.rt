@@ -3,7 +3,7 @@ mod entries;
 mod entry;
 mod table;
 
-ghost use Rattle.std.specs.Prelude.{◌≡◌, ℕ, ◌+◌, ◌*◌, ◌^◌, ◌<◌, ◌≤◌, true, ◌&&◌, [], length as length-of, take};
+ghost use Rattle.std.specs.Prelude.{◌≡◌, ℕ, ◌+◌, ◌*◌, ◌^◌, ◌<◌, ◌≤◌, true, ◌&&◌, [], length as length_of, take};
 ghost use Rattle.std.specs.List.{flat_map};
 ghost use Rattle.words.specs.Sets.{has};
 ghost use Rattle.routes.specs.Limits.{most_entries};
@@ -94,8 +94,8 @@ impl Recipes {
 
     /// How many moves the recipes of the entries come to.
     fn length(&self, entries: &Entries) -> u64
-        requires { (Placed self.now.order entries.now) × (length-of (flat_map (entry_numbers self.now) (take entries.now.count entries.now.list)) < 2 ^ 64) }
-        ensures { result ≡ length-of (flat_map (entry_numbers self.now) (take entries.now.count entries.now.list)) }
+        requires { (Placed self.now.order entries.now) × (length_of (flat_map (entry_numbers self.now) (take entries.now.count entries.now.list)) < 2 ^ 64) }
+        ensures { result ≡ length_of (flat_map (entry_numbers self.now) (take entries.now.count entries.now.list)) }
     {
         let mut length: u64 = 0;
         for entry in entries.list[0..entries.count as usize].iter() {
@@ -129,7 +129,7 @@ impl Route {
 
     /// How many moves the route has.
     pub fn length(&self) -> u64
-        ensures { result ≡ length-of (moves_of self.now) }
+        ensures { result ≡ length_of (moves_of self.now) }
     {
         self.length
     }

@@ -1,5 +1,5 @@
 //! The table of a route.
-ghost use Rattle.std.specs.Prelude.{◌≡◌, length as length-of};
+ghost use Rattle.std.specs.Prelude.{◌≡◌, length as length_of};
 ghost use Rattle.routes.specs.Listed.{PlacedIn, Listed, route_numbers};
 
 use crate::recipes::Recipes;
@@ -13,5 +13,5 @@ pub struct Route {
     pub(crate) length: u64,
     ghost placed: { PlacedIn recipes.order entries.count entries.list },
     ghost listed: { Listed recipes entries.count entries.list },
-    ghost counted: { length ≡ length-of (route_numbers recipes.task) },
+    ghost counted: { length ≡ length_of (route_numbers recipes.task) },
 }

@@ -7,22 +7,15 @@ invariant_of-result c =
     let t = c.args.task in
     let o = c.args.order in
     let table = c.args.table in
-    let tabled = c.requires.1.1 in (
-      c.requires.1.0,
-      (
-        c.requires.0,
-        (
-          tabled.members,
-          (
-            counts t o table c.requires.0 tabled,
-            (
-              within t o table c.requires.0 tabled,
-              (
-                helpers t o table c.requires.0 tabled true,
-                (helpers t o table c.requires.0 tabled false, (opens t o table c.requires.0 tabled true, (opens t o table c.requires.0 tabled false, tt))),
-              ),
-            ),
-          ),
-        ),
-      ),
-    )
+    let tabled = c.requires.1.1 in
+    record {
+      splits = c.requires.1.0;
+      orders = c.requires.0;
+      members = tabled.members;
+      counts = counts t o table c.requires.0 tabled;
+      within = within t o table c.requires.0 tabled;
+      helpers_up = helpers t o table c.requires.0 tabled true;
+      helpers_down = helpers t o table c.requires.0 tabled false;
+      opens_up = opens t o table c.requires.0 tabled true;
+      opens_down = opens t o table c.requires.0 tabled false;
+    }

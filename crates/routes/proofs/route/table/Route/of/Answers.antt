@@ -11,4 +11,8 @@ length-length-requires c = (
 pub invariant_of-result : goal.invariant_of-result
 invariant_of-result c =
     let same = listed c.args.recipes c.entries-entries.result c.entries-entries.ensures.parts in
-    (c.entries-entries.ensures.placed, (same, (c.length-length.ensures ∙ sym (ap length same), tt)))
+    record {
+      placed = c.entries-entries.ensures.placed;
+      listed = same;
+      counted = c.length-length.ensures ∙ sym (ap length same);
+    }
