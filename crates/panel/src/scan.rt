@@ -8,7 +8,7 @@ use words::LatchSet;
 
 /// The latches of the panel at position 1.
 pub fn raised<P: Panel>(panel: &P) -> LatchSet
-    ensures { (j : ℕ) → has result j ≡ slice_index_or (setting panel.now) j false }
+    ensures { (j : ℕ) → has result j ≡ slice_index_or (P.setting panel.now) j false }
 {
     let mut latches = LatchSet::EMPTY;
     for latch in 0..panel.width() {

@@ -6,7 +6,6 @@ use panel::relay::{PULSE_LIMIT, Relay};
 use panel::scan::raised;
 use panel::width::WIDEST;
 use std::process::Abort;
-use std::test::Fail;
 use words::LatchSet;
 
 /// The width of the panels that are thrown, and their positions before, latch 0 lowest.
@@ -37,44 +36,38 @@ const THROWS: [Throw; 6] = [
     ("far beyond", 255, true, None, START),
 ];
 
-fn tried<P: Panel>(rt: &impl Abort, panel: &mut P, throw: Throw) -> Result<(), Fail> {
+/// Tries a throw on a panel of the kind, which has the width and shows `START`.
+fn tried<P: Panel>(rt: &impl Abort, kind: &str, panel: &mut P, throw: Throw) {
     let (name, latch, to, shows, after) = throw;
-    assert_eq!(rt; panel.throw(latch, to), shows.is_some(), "{}", name);
-    assert_eq!(rt; panel.look(latch), shows, "{}", name);
-    assert_eq!(rt; panel.width(), WIDTH, "{}", name);
-    assert_eq!(rt; raised(panel), LatchSet::from_word(after), "{}", name);
-    Ok(())
+    assert_eq!(rt; panel.throw(latch, to), shows.is_some(), "{kind}: {name}");
+    assert_eq!(rt; panel.look(latch), shows, "{kind}: {name}");
+    assert_eq!(rt; panel.width(), WIDTH, "{kind}: {name}");
+    assert_eq!(rt; raised(panel), LatchSet::from_word(after), "{kind}: {name}");
 }
 
 #[test]
-fn throws(rt: HostRuntime) -> Result<(), Fail> {
+fn throws(rt: HostRuntime) {
     let mask = LatchSet::from_word(MASK);
     let second = LatchSet::from_word(SECOND_MASK);
     for throw in THROWS {
-        tried(&rt, &mut Register::new(WIDTH, START), throw).note("register")?;
-        tried(&rt, &mut Relay::new(WIDTH, START), throw).note("relay")?;
-        tried(
-            &rt,
-            &mut Flip::new(Register::new(WIDTH, BELOW), mask),
-            throw,
-        )
-        .note("flip")?;
+        tried(&rt, "register", &mut Register::new(WIDTH, START), throw);
+        tried(&rt, "relay", &mut Relay::new(WIDTH, START), throw);
+        let lower = Register::new(WIDTH, BELOW);
+        tried(&rt, "flip", &mut Flip::new(lower, mask), throw);
         let lower = Flip::new(Relay::new(WIDTH, LOWEST), second);
-        tried(&rt, &mut Flip::new(lower, mask), throw).note("flip upon flip")?;
+        tried(&rt, "flip upon flip", &mut Flip::new(lower, mask), throw);
     }
-    Ok(())
 }
 
 #[test]
-fn throws_of_a_later_kind(rt: HostRuntime) -> Result<(), Fail> {
+fn throws_of_a_later_kind(rt: HostRuntime) {
     for throw in THROWS {
         let mut places = [false; WIDEST as usize];
         places[1] = true;
         places[2] = true;
         places[4] = true;
-        tried(&rt, &mut Board::new(WIDTH, places), throw).note("board")?;
+        tried(&rt, "board", &mut Board::new(WIDTH, places), throw);
     }
-    Ok(())
 }
 
 #[test]
@@ -87,11 +80,11 @@ fn widths_are_clamped(rt: HostRuntime) {
         (255, 32, u32::MAX),
     ] {
         let register = Register::new(given, u32::MAX);
-        assert_eq!(rt; register.width(), width, "{}", given);
-        assert_eq!(rt; raised(&register), LatchSet::from_word(shown), "{}", given);
+        assert_eq!(rt; register.width(), width, "{given}");
+        assert_eq!(rt; raised(&register), LatchSet::from_word(shown), "{given}");
         let relay = Relay::new(given, u32::MAX);
-        assert_eq!(rt; relay.width(), width, "{}", given);
-        assert_eq!(rt; raised(&relay), LatchSet::from_word(shown), "{}", given);
+        assert_eq!(rt; relay.width(), width, "{given}");
+        assert_eq!(rt; raised(&relay), LatchSet::from_word(shown), "{given}");
     }
 }
 
