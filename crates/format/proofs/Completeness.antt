@@ -1,6 +1,6 @@
 -- The text of a well-formed contents is read, and says that contents.
 use Rattle.std.proofs.Common.{◌≡◌, ℕ, suc, ◌≤◌, true, ltb, List, [], ◌∷◌, ◌++◌, map, length, get_or, codes, sym, refl, ap, ◌∙◌, subst, arith}
-use Rattle.std.specs.List.{AllByRecursion as All}
+use Rattle.std.specs.List.{AllByRecursion}
 use Rattle.std.proofs.ByRecursion.{All-get_or}
 use Rattle.std.proofs.lemmas.List.{append-nil, append_assoc}
 use Rattle.std.proofs.lemmas.Bool.{le-ltb, cond-false}
@@ -44,7 +44,7 @@ same_gets m a b text e g n r = ((g n r).0, (g n r).1 ∙ ap (λ (z : _). got z (
 free_named : (v : Bytes) → well_named v ≡ true → free 10 v ≡ true
 free_named v h = free_name 10 v (omega arith) (named_parts v h).1.1
 
-pub latches_gets : (names new : List Bytes) → All (λ x. well_named x ≡ true) new → Distinct (names ++ new)
+pub latches_gets : (names new : List Bytes) → AllByRecursion (λ x. well_named x ≡ true) new → Distinct (names ++ new)
     → Gets (latches (length new) names) (names ++ new) (latch_lines new)
 latches_gets names [] a d = same_gets (give names) names (names ++ []) (λ r. r) (sym (append-nil names)) (give_gets names)
 latches_gets names (x ∷ new) a d =
@@ -54,7 +54,7 @@ latches_gets names (x ∷ new) a d =
     (entry_gets (codes "latch=") (new_name names) x x refl (free_named x a.0) (new_name_at names x a.0 (find_new x names (distinct_mid names x new d))))
     (same_gets (latches (length new) (names ++ (x ∷ []))) ((names ++ (x ∷ [])) ++ new) (names ++ (x ∷ new)) (latch_lines new) e t)
 
-module _ (names : List Bytes) (distinct : Distinct names) (named : All (λ x. well_named x ≡ true) names) where
+module _ (names : List Bytes) (distinct : Distinct names) (named : AllByRecursion (λ x. well_named x ≡ true) names) where
   pub rule_gets : (r : Rule) → Own (length names) r → Gets (rule names) r (rule_lines names (r ∷ []))
   rule_gets r o =
       then_gets (entry (codes "move=") (latch names)) r.latch (line (codes "move=") (get_or names r.latch []))
@@ -73,7 +73,7 @@ module _ (names : List Bytes) (distinct : Distinct names) (named : All (λ x. we
       (item_list_at names distinct named r.when o.1))
       (give_gets r)))
 
-  pub rules_gets : (done new : List Rule) → All (Own (length names)) new → Gets (rules (length new) names done) (done ++ new) (rule_lines names new)
+  pub rules_gets : (done new : List Rule) → AllByRecursion (Own (length names)) new → Gets (rules (length new) names done) (done ++ new) (rule_lines names new)
   rules_gets done [] a = same_gets (give done) done (done ++ []) (λ r. r) (sym (append-nil done)) (give_gets done)
   rules_gets done (x ∷ new) a =
       then_gets (rule names) x (rule_lines names (x ∷ [])) (λ y. rules (length new) names (done ++ (y ∷ []))) (done ++ (x ∷ new)) (rule_lines names new)

@@ -1,7 +1,7 @@
 -- Laws of cutting, stripping, parting and joining.
 use Rattle.std.proofs.Common.{◌≡◌, ℕ, Bool, true, false, cond, not, ◌&&◌, eqb, List, [], ◌∷◌, ◌++◌, length, sym, refl, ap, ◌∙◌, arith}
 use mathlib.Core.Option.{Option, none, some}
-use Rattle.std.specs.List.{AllByRecursion as All}
+use Rattle.std.specs.List.{AllByRecursion}
 use Rattle.std.proofs.lemmas.List.{append-nil}
 use Rattle.std.proofs.lemmas.Bool.{eqb-true, eq-eqb, and_parts, and_from, both_ways, not-true, not_from_false, cond-true, cond-false}
 use Rattle.book.specs.Names.{same}
@@ -130,7 +130,7 @@ parts_cut sep (b ∷ p) r h =
     let s = and_parts (not (eqb b sep)) (free sep p) h in
     cond-false (eqb b sep) _ _ (not-true (eqb b sep) s.0) ∙ ap (longer b) (parts_cut sep p r s.1)
 
-pub parts_joined : (sep : ℕ) (x : Bytes) (xs : List Bytes) → free sep x ≡ true → All (λ y. free sep y ≡ true) xs → parts sep (joined sep (x ∷ xs)) ≡ x ∷ xs
+pub parts_joined : (sep : ℕ) (x : Bytes) (xs : List Bytes) → free sep x ≡ true → AllByRecursion (λ y. free sep y ≡ true) xs → parts sep (joined sep (x ∷ xs)) ≡ x ∷ xs
 parts_joined sep x [] h a = ap (parts sep) (append-nil x) ∙ parts_one sep x h
 parts_joined sep x (y ∷ ys) h a = parts_cut sep x (joined sep (y ∷ ys)) h ∙ ap (λ (z : List Bytes). x ∷ z) (parts_joined sep y ys a.0 a.1)
 

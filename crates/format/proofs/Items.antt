@@ -1,7 +1,7 @@
 -- The reader of a list of items accepts exactly what is written for one.
 use Rattle.std.proofs.Common.{◌≡◌, ℕ, suc, ◌+◌, ◌-◌, ◌<◌, ◌≤◌, Bool, true, false, cond, not, eqb, ltb, leb, List, [], ◌∷◌, ◌++◌, map, length, get_or, take, drop, codes, sym, refl, ap, ◌∙◌, subst, arith}
 use mathlib.Core.Option.{Option, none, some}
-use Rattle.std.specs.List.{AllByRecursion as All}
+use Rattle.std.specs.List.{AllByRecursion}
 use Rattle.std.proofs.ByRecursion.{All-get_or}
 use Rattle.std.proofs.lemmas.List.{append-nil, append_assoc, length-append, take-append-drop, take_at, drop_at}
 use Rattle.std.proofs.lemmas.Bool.{leb-true, le-leb, ne_eqb, not_from_false, and_from, le-ltb, cond-true, cond-false}
@@ -61,7 +61,7 @@ item_fine names low v x h = go (ltb (length v) 3) h
     go false h = middle (ending (drop (length v - 2) v)) refl h
 
 -- names that a book can have
-module _ (names : List Bytes) (distinct : Distinct names) (named : All (λ x. well_named x ≡ true) names) where
+module _ (names : List Bytes) (distinct : Distinct names) (named : AllByRecursion (λ x. well_named x ≡ true) names) where
   name_at : (i : ℕ) → i < length names → well_named (get_or names i []) ≡ true
   name_at i l = All-get_or (λ x. well_named x ≡ true) names i [] l named
 
@@ -99,11 +99,11 @@ module _ (names : List Bytes) (distinct : Distinct names) (named : All (λ x. we
       far_digit true = far 49 (omega arith)
       far_digit false = far 48 (omega arith)
 
-  pub free_items : (sep low : ℕ) → sep < 45 → (xs : List Item) → Rising low (length names) xs → All (λ v. free sep v ≡ true) (map (item_text names) xs)
+  pub free_items : (sep low : ℕ) → sep < 45 → (xs : List Item) → Rising low (length names) xs → AllByRecursion (λ v. free sep v ≡ true) (map (item_text names) xs)
   free_items sep low l [] r = tt
   free_items sep low l (x ∷ xs) r = (free_item sep l x r.1.0, free_items sep (suc x.latch) l xs r.1.1)
 
-  pub free_joined_on : (vs : List Bytes) → All (λ v. free 10 v ≡ true) vs → free 10 (joined_on 32 vs) ≡ true
+  pub free_joined_on : (vs : List Bytes) → AllByRecursion (λ v. free 10 v ≡ true) vs → free 10 (joined_on 32 vs) ≡ true
   free_joined_on [] a = refl
   free_joined_on (v ∷ vs) a = free_append 10 v (joined_on 32 vs) a.0 (free_joined_on vs a.1)
 

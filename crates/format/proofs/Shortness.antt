@@ -1,6 +1,6 @@
 -- The text of a well-formed contents fits the limit.
 use Rattle.std.proofs.Common.{◌≡◌, ℕ, suc, ◌+◌, ◌-◌, ◌*◌, ◌<◌, ◌≤◌, true, List, [], ◌∷◌, ◌++◌, map, length, get_or, codes, ap, ◌∙◌, arith}
-use Rattle.std.specs.List.{AllByRecursion as All}
+use Rattle.std.specs.List.{AllByRecursion}
 use Rattle.std.proofs.ByRecursion.{All-get_or}
 use Rattle.std.proofs.lemmas.List.{length-append, length-map}
 use Rattle.format.specs.Bytes.{Bytes, decimal, joined_on}
@@ -16,7 +16,7 @@ rising_length : (low n : ℕ) (xs : List Item) → Rising low n xs → length xs
 rising_length low n [] r = omega arith
 rising_length low n (x ∷ xs) r = let h = rising_length (suc x.latch) n xs r.1.1 in omega (arith, r.0, r.1.0)
 
-module _ (names : List Bytes) (named : All (λ x. well_named x ≡ true) names) where
+module _ (names : List Bytes) (named : AllByRecursion (λ x. well_named x ≡ true) names) where
   name_length : (i : ℕ) → i < length names → length (get_or names i []) ≤ 11
   name_length i l = (named_parts (get_or names i []) (All-get_or (λ x. well_named x ≡ true) names i [] l named)).1.0
 
@@ -38,7 +38,7 @@ module _ (names : List Bytes) (named : All (λ x. well_named x ≡ true) names) 
       let m = rising_length 0 (length names) (x ∷ xs) r in
       omega (arith, length-append (item_text names x) (joined_on 32 (map (item_text names) xs)))
 
-  rules_length : (rs : List Rule) (rest : Bytes) → All (Own (length names)) rs → length names ≤ 32 → length (rule_lines names rs rest) ≤ 476 * length rs + length rest
+  rules_length : (rs : List Rule) (rest : Bytes) → AllByRecursion (Own (length names)) rs → length names ≤ 32 → length (rule_lines names rs rest) ≤ 476 * length rs + length rest
   rules_length [] rest a l = omega arith
   rules_length (r ∷ rs) rest a l =
       let h = rules_length rs rest a.1 l in
@@ -49,7 +49,7 @@ module _ (names : List Bytes) (named : All (λ x. well_named x ≡ true) names) 
       let x : Bytes = line (codes "to=") (digit r.to ∷ []) y in
       omega (arith, line_length (codes "when=") (list_text names r.when) z, line_length (codes "to=") (digit r.to ∷ []) y, line_length (codes "move=") (get_or names r.latch []) x)
 
-latches_length : (new : List Bytes) (rest : Bytes) → All (λ x. well_named x ≡ true) new → length (latch_lines new rest) ≤ 18 * length new + length rest
+latches_length : (new : List Bytes) (rest : Bytes) → AllByRecursion (λ x. well_named x ≡ true) new → length (latch_lines new rest) ≤ 18 * length new + length rest
 latches_length [] rest a = omega arith
 latches_length (x ∷ new) rest a =
     let h = latches_length new rest a.1 in

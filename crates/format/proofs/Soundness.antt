@@ -1,7 +1,7 @@
 -- What is accepted is the text of a well-formed contents.
 use Rattle.std.proofs.Common.{◌≡◌, ℕ, zero, suc, ◌≤◌, Bool, true, false, cond, ltb, List, [], ◌∷◌, ◌++◌, map, length, get_or, codes, sym, refl, ap, ◌∙◌, subst}
 use mathlib.Core.Option.{none}
-use Rattle.std.specs.List.{AllByRecursion as All}
+use Rattle.std.specs.List.{AllByRecursion}
 use Rattle.std.proofs.ByRecursion.{All-push}
 use Rattle.std.proofs.lemmas.List.{append-nil, append_assoc}
 use Rattle.std.proofs.lemmas.Bool.{both_ways}
@@ -24,7 +24,7 @@ Named x = well_named x ≡ true
 
 pub latches_got : (n : ℕ) (names : List Bytes) (p : Place) (all : List Bytes) (q : Place) → latches n names p ≡ got all q
     → (new : List Bytes) × ((all ≡ names ++ new) × ((length new ≡ n) × ((p.rest ≡ latch_lines new q.rest)
-    × ((Distinct names → Distinct all) × (All Named names → All Named all)))))
+    × ((Distinct names → Distinct all) × (AllByRecursion Named names → AllByRecursion Named all)))))
 latches_got zero names p all q h =
     let s = got_same names all p q h in (
       [],
@@ -34,7 +34,7 @@ latches_got zero names p all q h =
           refl,
           (
             ap (λ (x : Place). x.rest) s.1,
-            (λ d. subst (λ (z : List Bytes). Distinct z) s.0 d, λ a. subst (λ (z : List Bytes). All Named z) s.0 a),
+            (λ d. subst (λ (z : List Bytes). Distinct z) s.0 d, λ a. subst (λ (z : List Bytes). AllByRecursion Named z) s.0 a),
           ),
         ),
       ),
@@ -86,7 +86,7 @@ rule_got names p r q h =
     )
 
 pub rules_got : (m : ℕ) (names : List Bytes) (done : List Rule) (p : Place) (all : List Rule) (q : Place) → rules m names done p ≡ got all q
-    → (new : List Rule) × ((all ≡ done ++ new) × ((length new ≡ m) × ((p.rest ≡ rule_lines names new q.rest) × All (Own (length names)) new)))
+    → (new : List Rule) × ((all ≡ done ++ new) × ((length new ≡ m) × ((p.rest ≡ rule_lines names new q.rest) × AllByRecursion (Own (length names)) new)))
 rules_got zero names done p all q h =
     let s = got_same done all p q h in ([], (sym s.0 ∙ sym (append-nil done), (refl, (ap (λ (x : Place). x.rest) s.1, tt))))
 rules_got (suc m) names done p all q h =
@@ -134,7 +134,7 @@ book_got p b q h =
       named = e3.1.1.1.1.1 tt;
       distinct = e3.1.1.1.1.0 tt;
       room = subst (λ (k : ℕ). k ≤ 128) (sym lm) f4.1.0;
-      own = subst (λ (z : List Rule). All (Own (length names)) z) (sym e5.1.0) e5.1.1.1.1;
+      own = subst (λ (z : List Rule). AllByRecursion (Own (length names)) z) (sym e5.1.0) e5.1.1.1.1;
     } in (
       e1.1.0 ∙ ap (λ (v : Bytes). line (codes "book=") v p1.rest) (sym (only_fine (codes "1") e1.0 c1.0 e1.1.1))
           ∙ ap (line (codes "book=") (codes "1"))

@@ -1,5 +1,5 @@
 -- The theorem from its parts: sound, complete, short.
-use Rattle.std.proofs.Common.{◌≡◌, [], sym, ap, ◌∙◌}
+use Rattle.std.proofs.Common.{◌≡◌, sym, ap, ◌∙◌}
 use Rattle.format.specs.Contents.{Contents, Well}
 use Rattle.format.specs.Written.{book_lines, book_text, errand_lines}
 use Rattle.format.specs.Reading.{Reading, accepted, declined, book, errand, read_book, read_errand}

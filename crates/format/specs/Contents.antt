@@ -9,7 +9,7 @@
 --   Well p            p can be the contents of a book with a latch
 --   WellErrand e      e can be the contents of an errand of such a book
 use Rattle.std.specs.Prelude.{◌≡◌, ℕ, suc, ◌<◌, ◌≤◌, Bool, true, List, [], ◌∷◌, length, ◌≢◌}
-use Rattle.std.specs.List.{AllByRecursion as All}
+use Rattle.std.specs.List.{AllByRecursion}
 use Rattle.words.specs.Sets.{most_latches}
 use Rattle.book.specs.Limits.{most_moves}
 use Rattle.book.specs.Names.{well_named}
@@ -40,7 +40,7 @@ pub record ErrandContents : Type 0 where
 -- no two of them are the same
 abbrev pub Distinct : List Bytes → Type 0
 Distinct [] = Unit {0}
-Distinct (x ∷ xs) = All (λ y. y ≢ x) xs × Distinct xs
+Distinct (x ∷ xs) = AllByRecursion (λ y. y ≢ x) xs × Distinct xs
 
 -- the items name latches from low up to below n, in rising order
 abbrev pub Rising : ℕ → ℕ → List Item → Type 0
@@ -55,10 +55,10 @@ Own n r = (r.latch < n) × Rising 0 n r.when
 pub record Well (p : Contents) : Type 0 where
   pub some_latch : 1 ≤ length p.names
   pub few : length p.names ≤ most_latches
-  pub named : All (λ x. well_named x ≡ true) p.names
+  pub named : AllByRecursion (λ x. well_named x ≡ true) p.names
   pub distinct : Distinct p.names
   pub room : length p.rules ≤ most_moves
-  pub own : All (Own (length p.names)) p.rules
+  pub own : AllByRecursion (Own (length p.names)) p.rules
 
 -- what the contents of an errand are: a position for each latch, and what is wanted of some
 pub record WellErrand (e : ErrandContents) : Type 0 where

@@ -7,7 +7,7 @@
 --   m >>= f           m and then, with its value, f
 --   value key         the value of the next line, which has this key
 --   entry key judge   the same, judged
-use Rattle.std.specs.Prelude.{ℕ, suc, []}
+use Rattle.std.specs.Prelude.{ℕ, suc}
 use Rattle.std.proofs.Math.Option.{Option, none, some}
 use Rattle.format.specs.declared.Fault.{Fault}
 use Rattle.format.specs.declared.Fault.TheVariants.{Line}

@@ -5,6 +5,6 @@ use Rattle.booktext.proofs.whole.has_text.Goals as goal
 
 pub returns : goal.returns
 returns c = record {
-  when = c.has-latch.ensures;
-  text = λ h. has_one_text c.args.book.now (ltb-true 0 c.args.book.now.latches (sym c.has-latch.ensures ∙ h));
+  when = c.has_latch.ensures;
+  text = λ h. has_one_text c.args.book.now (ltb-true 0 c.args.book.now.latches (sym c.has_latch.ensures ∙ h));
 }

@@ -3,7 +3,7 @@ use Rattle.booktext.proofs.whole.read_book.Goals as goal
 
 pub returns : goal.returns
 returns c = record {
-  reads = c.book-from.ensures;
-  says = book_says c.args.text.now c.book-from.result c.book-from.ensures;
-  finds = book_finds c.args.text.now c.book-from.result c.book-from.ensures;
+  reads = c.book_from.ensures;
+  says = book_says c.args.text.now c.book_from.result c.book_from.ensures;
+  finds = book_finds c.args.text.now c.book_from.result c.book_from.ensures;
 }

@@ -18,13 +18,13 @@ loop-i-init c =
       },
     )
 
-pub returns-in-err-moves : goal.returns-in-err-moves
-returns-in-err-moves c =
-    let p = err_from_is_err_and c.from-residual.result c.from-residual.ensures.1 in
+pub returns-in_err-moves : goal.returns-in_err-moves
+returns-in_err-moves c =
+    let p = err_from_is_err_and c.from_residual.result c.from_residual.ensures.1 in
     rw (p.1, p.2)
     (record {
       told = move_stop (map name_of c.args.names.now) c.args.count c.loop-i.i c.loop-i.moves (at c.loop-i.self) _ _ _
-          c.loop-i-test.true c.loop-i.invariant.0 c.in-err-moves.ensures.told;
+          c.loop-i-test.true c.loop-i.invariant.0 c.in_err-moves.ensures.told;
       table = tt;
     })
 
@@ -32,7 +32,7 @@ pub loop-i-preserved : goal.loop-i-preserved
 loop-i-preserved c =
     let l : c.loop-i.i < 128 = omega (arith, c.requires.1, c.loop-i-test.true) in
     let k : c.loop-i.i < length c.loop-i.moves = omega (arith, c.loop-i.invariant.1.places) in
-    let e = c.in-ok-moves.ensures in (
+    let e = c.in_ok-moves.ensures in (
       move_turn (map name_of c.args.names.now) c.args.count c.loop-i.i c.loop-i.moves _ (at c.loop-i.self) _ _ c.loop-i-test.true k c.loop-i.invariant.0 e.told,
       moved_more (length c.args.names.now) c.loop-i.i c.loop-i.moves _ l e.own c.loop-i.invariant.1,
     )

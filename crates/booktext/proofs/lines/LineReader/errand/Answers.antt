@@ -4,24 +4,27 @@ use Rattle.booktext.specs.At.{at}
 use Rattle.booktext.proofs.Tables.{below_front}
 use Rattle.booktext.proofs.lines.LineReader.errand.Goals as goal
 
-pub returns-in-err-start : goal.returns-in-err-start
-returns-in-err-start c =
-    let p = err_from_is_err_and c.from-residual-in-err-start.result c.from-residual-in-err-start.ensures.1 in
+pub returns-in_err-start : goal.returns-in_err-start
+returns-in_err-start c =
+    let p = err_from_is_err_and c.from_residual-in_err-start.result c.from_residual-in_err-start.ensures.1 in
     rw (p.1, p.2)
-    (start_refused c.in-ok-book.book (at c.args.self.now) (at c.book.new.self) c.in-ok-book.ensures _ _ c.in-err-start.ensures.told)
+    (start_refused c.in_ok-book.book (at c.args.self.now) (at c.book.new.self) c.in_ok-book.ensures _ _ c.in_err-start.ensures.told)
 
-pub returns-in-err-want : goal.returns-in-err-want
-returns-in-err-want c =
-    let p = err_from_is_err_and c.from-residual-in-err-want.result c.from-residual-in-err-want.ensures.1 in
+pub returns-in_err-want : goal.returns-in_err-want
+returns-in_err-want c =
+    let p = err_from_is_err_and c.from_residual-in_err-want.result c.from_residual-in_err-want.ensures.1 in
     rw (p.1, p.2)
-    (want_refused c.in-ok-book.book (at c.args.self.now) (at c.book.new.self) c.in-ok-book.ensures _ _ c.in-ok-start.ensures.told _ _ c.in-err-want.ensures.told)
+    (want_refused c.in_ok-book.book (at c.args.self.now) (at c.book.new.self) c.in_ok-book.ensures _ _ c.in_ok-start.ensures.told _ _ c.in_err-want.ensures.told)
 
-pub invariant-of-result : goal.invariant-of-result
-invariant-of-result c =
-    let b = c.in-ok-book.book in
-    (c.in-ok-start.ensures.below, (below_front b.latches b.names c.in-ok-want.want.named b.few b.name_places c.in-ok-want.ensures.below, tt))
+pub invariant_of-result : goal.invariant_of-result
+invariant_of-result c =
+    let b = c.in_ok-book.book in
+    record {
+      starts = c.in_ok-start.ensures.below;
+      wants = below_front b.latches b.names c.in_ok-want.want.named b.few b.name_places c.in_ok-want.ensures.below;
+    }
 
 pub returns : goal.returns
 returns c =
-    errand_made c.in-ok-book.book (at c.args.self.now) (at c.book.new.self) c.in-ok-book.ensures _ (at c.start-line.new.self) c.in-ok-start.ensures.told
-    _ (at c.items-line.new.self) c.in-ok-want.ensures.told
+    errand_made c.in_ok-book.book (at c.args.self.now) (at c.book.new.self) c.in_ok-book.ensures _ (at c.start_line.new.self) c.in_ok-start.ensures.told
+    _ (at c.items_line.new.self) c.in_ok-want.ensures.told

@@ -11,19 +11,19 @@ loop-i-init c =
     let e : c.args.n - 0 ≡ c.args.n = omega arith in
     (ap (λ (k : ℕ). latches k [] (at c.args.self.now)) e, record { places = c.blank.result.name_places; blank = λ k l. c.blank.result.no_names k (omega (arith, c.blank.ensures.latches)) })
 
-pub returns-in-err-names : goal.returns-in-err-names
-returns-in-err-names c =
-    let p = err_from_is_err_and c.from-residual.result c.from-residual.ensures.1 in
+pub returns-in_err-names : goal.returns-in_err-names
+returns-in_err-names c =
+    let p = err_from_is_err_and c.from_residual.result c.from_residual.ensures.1 in
     rw (p.1, p.2)
     (record {
-      told = latch_stop c.args.n c.loop-i.i c.loop-i.names (at c.loop-i.self) _ _ _ c.loop-i-test.true c.loop-i.invariant.0 c.in-err-names.ensures;
+      told = latch_stop c.args.n c.loop-i.i c.loop-i.names (at c.loop-i.self) _ _ _ c.loop-i-test.true c.loop-i.invariant.0 c.in_err-names.ensures;
       table = tt;
     })
 
 pub loop-i-preserved : goal.loop-i-preserved
 loop-i-preserved c =
     let l : c.loop-i.i < length c.loop-i.names = omega (arith, c.loop-i.invariant.1.places, c.requires, c.loop-i-test.true) in (
-      latch_turn c.args.n c.loop-i.i c.loop-i.names _ (at c.loop-i.self) _ _ c.loop-i-test.true l c.loop-i.invariant.0 c.in-ok-names.ensures,
+      latch_turn c.args.n c.loop-i.i c.loop-i.names _ (at c.loop-i.self) _ _ c.loop-i-test.true l c.loop-i.invariant.0 c.in_ok-names.ensures,
       named_more c.loop-i.i c.loop-i.names _ c.loop-i.invariant.1,
     )
 

@@ -6,9 +6,9 @@ use Rattle.booktext.proofs.lines.LineReader.move_lines.Goals as goal
 
 pub returns : goal.returns
 returns c =
-    let a = c.in-ok-latch.ensures in
-    let b = c.in-ok-to.ensures in
-    let w = c.in-ok-when.ensures in
+    let a = c.in_ok-latch.ensures in
+    let b = c.in_ok-to.ensures in
+    let w = c.in_ok-when.ensures in
     record {
       told = rule_made (map name_of c.args.names.now) (at c.args.self.now) _ _ _ _ _ _ a b w.told;
       own = record { own = thrown_below c.args.names.now (at c.args.self.now) _ _ a; asks = w.below };
