@@ -1,5 +1,5 @@
 -- What a table holds of a latch once its recipes are kept.
-use Rattle.std.proofs.Common.{◌≡◌, ℕ, ◌<◌, ◌≤◌, Bool, true, false, cond, ◌&&◌, ◌||◌, eqb, ◌≢◌, List, length, get_or, set, Some, None, Option as Option-given, sym, refl, ap, ◌∙◌, subst, ap₂, arith, get_or-set_other, get_or-set_same}
+use Rattle.std.proofs.Common.{◌≡◌, ℕ, ◌<◌, ◌≤◌, Bool, true, false, cond, ◌&&◌, ◌||◌, eqb, ◌≢◌, List, length, get_or, set, Some, None, Option as OptionGiven, sym, refl, ap, ◌∙◌, subst, ap₂, arith, get_or-set_other, get_or-set_same}
 use mathlib.Core.Option.{Option, none, some}
 use Rattle.std.proofs.lemmas.Bool.{both_ways, ne_eqb}
 use Rattle.words.specs.declared.LatchSet.{LatchSet}
@@ -25,11 +25,11 @@ keep_both : (w : Ask) (one zero : Option RecipeMeant) (r q : RecipeMeant) → on
 keep_both w one zero r q e f = ap₂ (λ (o z : Option RecipeMeant). keep w o z) e f
 
 -- what was made, by what is given
-made_of : {t : NormalTask} {kept : Table} {v : ℕ} {placed : List ℕ} {x : Bool} {n : ℕ} (o : Option-given Recipe) (c : Recipe) → o ≡ Some c → Chosen t kept v placed x n o → Made t kept v placed x n c
+made_of : {t : NormalTask} {kept : Table} {v : ℕ} {placed : List ℕ} {x : Bool} {n : ℕ} (o : OptionGiven Recipe) (c : Recipe) → o ≡ Some c → Chosen t kept v placed x n o → Made t kept v placed x n c
 made_of {t} {kept} {v} {placed} {x} {n} o c e h = subst (Chosen t kept v placed x n) e h
 
 none_of :
-    (t : NormalTask) (kept : Table) (v : ℕ) (placed : List ℕ) (x : Bool) (n : ℕ) (o : Option-given Recipe) →
+    (t : NormalTask) (kept : Table) (v : ℕ) (placed : List ℕ) (x : Bool) (n : ℕ) (o : OptionGiven Recipe) →
     ((c : Recipe) → o ≡ Some c → ⊥) → Chosen t kept v placed x n o → recipe (task_of t) kept placed v x ≡ none
 none_of t kept v placed x n None e h = h
 none_of t kept v placed x n (Some c) e h = absurd (e c refl)
@@ -72,7 +72,7 @@ put_in : (rs after : List Recipe) (v : ℕ) (c : Recipe) → v < length rs → a
 put_in rs after v c l e = ap (λ (xs : List Recipe). get_or xs v no_recipe) e ∙ get_or-set_same rs v c no_recipe l
 
 module _ (t : NormalTask) (kept : Table) (v : ℕ) (placed : List ℕ) (n : ℕ) (table after : RecipeTable) (vacant : Held t v placed n none_kept table)
-    (one zero : Option-given Recipe) (chosen_one : Chosen t kept v placed true n one) (chosen_zero : Chosen t kept v placed false n zero) where
+    (one zero : OptionGiven Recipe) (chosen_one : Chosen t kept v placed true n one) (chosen_zero : Chosen t kept v placed false n zero) where
   -- the recipe to 1 is put in
   pub held_one :
       (c : Recipe) → one ≡ Some c → ((d : Recipe) → zero ≡ Some d → ⊥) → asks? false (asks_of t.want v) ≡ false → v < most_latches →

@@ -1,7 +1,9 @@
+use Rattle.std.proofs.Common.{sym, ◌∙◌}
+use Rattle.std.proofs.lemmas.Bool.{eqb-true, eq-eqb}
 use Rattle.sequencer.proofs.Showing.{holds_met}
 use Rattle.sequencer.proofs.machine.holds.Goals as goal
 
 pub returns : goal.returns
 returns c =
     holds_met c.args.asked c.args.raised c.difference.result c.difference-2.result c.difference.ensures c.difference-2.ensures c.eq.result
-    c.eq.ensures
+    (λ t. eqb-true _ _ (sym c.eq.ensures ∙ t), λ h. c.eq.ensures ∙ eq-eqb _ _ h)

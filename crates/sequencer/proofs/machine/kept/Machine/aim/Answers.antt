@@ -17,7 +17,7 @@ returns-then-shown-self c = aim_misfit c.args.self.now c.requires c.args.shown c
 
 pub returns-in_err-route : goal.returns-in_err-route
 returns-in_err-route c =
-    let p = err_from_is_err_and c.from-residual.result c.from-residual.ensures.1 in
+    let p = err_from_is_err_and c.from_residual.result c.from_residual.ensures.1 in
     let m = c.args.self.now in
     subst (λ (a : Answer). Does c.args.shown (Aim c.args.named c.args.wanted) m m a) (sym (ap found_or p.1))
     (aim_refused m c.requires c.args.shown c.args.named c.args.wanted c.if-shown-self.false p.0
@@ -27,14 +27,13 @@ returns-in_err-route c =
 pub invariant_of-self : goal.invariant_of-self
 invariant_of-self c =
     let ks = moves_of c.in_ok-route.route in
-    let all : 0 + c.length-length.result ≡ length ks = omega (arith, c.length-length.ensures) in (
-      subst (λ (n : ℕ). more? c.onward-self.result n ≡ true) all c.onward-self.ensures.more,
-      (
-        route_own c.args.self.now.book (setting_of c.args.self.now.book.latches c.args.shown.raised) c.args.named c.args.wanted
-            c.in_ok-route.route c.in_ok-route.ensures.says,
-        tt,
-      ),
-    )
+    let all : 0 + c.length-length.result ≡ length ks = omega (arith, c.length-length.ensures) in
+    record {
+      more = subst (λ (n : ℕ). more? c.onward-self.result n ≡ true) all c.onward-self.ensures.more;
+      own =
+          route_own c.args.self.now.book (setting_of c.args.self.now.book.latches c.args.shown.raised) c.args.named c.args.wanted
+          c.in_ok-route.route c.in_ok-route.ensures.says;
+    }
 
 pub returns : goal.returns
 returns c =

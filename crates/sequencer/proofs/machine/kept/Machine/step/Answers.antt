@@ -12,7 +12,7 @@ invariant_of-self c =
     let m = c.args.self.now in
     let all : c.args.done + 1 + (c.length.result - (c.args.done + 1)) ≡ length (moves_of m.route) =
     omega (arith, c.length.ensures, more_left m c.args.done c.requires) in
-    (subst (λ (n : ℕ). more? c.onward-self.result n ≡ true) all c.onward-self.ensures.more, (m.own, tt))
+    record { more = subst (λ (n : ℕ). more? c.onward-self.result n ≡ true) all c.onward-self.ensures.more; own = m.own }
 
 pub returns : goal.returns
 returns c =
