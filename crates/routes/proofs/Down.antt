@@ -1,5 +1,5 @@
 -- Going down into a recipe: it is kept if it has a move, and it is its helpers' recipes to 1, its move, and their recipes to 0.
-use Rattle.std.proofs.Common.{◌≡◌, ℕ, ◌<◌, Bool, true, false, List, ◌∷◌, ◌++◌, length, sym, refl, ap, ◌∙◌, inl, inr, arith}
+use Rattle.std.proofs.Common.{◌≡◌, ℕ, ◌<◌, Bool, true, false, List, ◌∷◌, ◌++◌, length, ap, ◌∙◌, inl, inr, arith}
 use Rattle.std.proofs.lemmas.Bool.{cases_Bool}
 use Rattle.words.specs.Sets.{has}
 use Rattle.theory.specs.Recipes.{kept?, helper?}

@@ -1,22 +1,22 @@
 -- Laying the route of a set behind other entries, by the first latch of the order.
-use Rattle.std.proofs.Common.{◌≡◌, ℕ, ◌+◌, ◌*◌, ◌<◌, ◌≤◌, Bool, true, false, cond, not, ◌&&◌, List, [], ◌∷◌, ◌++◌, sym, refl, ap, ◌∙◌, subst, ap₂, inl, inr, append_assoc, append-nil, arith}
+use Rattle.std.proofs.Common.{◌≡◌, ℕ, ◌+◌, ◌<◌, ◌≤◌, Bool, true, false, cond, not, ◌&&◌, List, ◌∷◌, ◌++◌, sym, refl, ap, ◌∙◌, subst, ap₂, inl, inr, append_assoc, append-nil, arith}
 use Rattle.std.proofs.lemmas.Bool.{both_ways, ne_eqb, not_from_false}
 use Rattle.words.specs.declared.LatchSet.{LatchSet}
-use Rattle.words.specs.Sets.{has, has_without, has_minus, Empty}
+use Rattle.words.specs.Sets.{has, has_without, Empty}
 use Rattle.theory.specs.Searches.{In}
 use Rattle.theory.specs.Tasks.{asks?}
 use Rattle.theory.specs.Class.{side?, splitting?}
 use Rattle.theory.specs.Recipes.{Part, recipe_of, kept?}
-use Rattle.theory.specs.Route.{when, on_side, on_neither, split_route, plain_route, set_route, kept_table}
+use Rattle.theory.specs.Route.{when, on_side, on_neither, set_route, kept_table}
 use Rattle.theory.proofs.Sides.{sides_apart}
 use Rattle.tasks.specs.Asks.{asks_of}
 use Rattle.tasks.specs.Tasks.{task_of}
 use Rattle.routes.specs.declared.recipes.kept.Recipes.{Recipes}
 use Rattle.routes.specs.declared.route.entries.Entries.{Entries}
-use Rattle.routes.specs.Laid.{parts_of, Placed, rest, size, Puts, Extends}
+use Rattle.routes.specs.Laid.{parts_of, rest, size, Puts, Extends}
 use Rattle.routes.specs.Made.{latch_at}
 use Rattle.routes.proofs.Rests.{rest_next, rest_end, rest_fresh, rest_within, size_alike, size_parts}
-use Rattle.routes.proofs.SetRoutes.{set_route_out, set_route_plain, set_route_split, set_route_alike, set_route_none}
+use Rattle.routes.proofs.SetRoutes.{set_route_out, set_route_plain, set_route_split, set_route_none}
 
 module _ (s : Recipes) (set : LatchSet) (i : ℕ) (es : Entries) where
   -- no latch is left

@@ -1,10 +1,9 @@
 -- No way, as the sets of the table tell it, and what each answer of the planner says.
-use Rattle.std.proofs.Common.{◌≡◌, ℕ, ◌<◌, Bool, true, false, not, ◌&&◌, ◌⊎◌, ◌↔◌, List, length, Ok, Err, Decides, Result, sym, refl, ap, ◌∙◌, subst, inl, inr}
-use mathlib.Core.Option.{Option, none, some}
+use Rattle.std.proofs.Common.{◌≡◌, ℕ, ◌<◌, Bool, true, false, not, ◌&&◌, ◌↔◌, List, length, Ok, Err, Decides, Result, sym, refl, ap, ◌∙◌, subst, inl, inr}
+use mathlib.Core.Option.{none, some}
 use Rattle.std.proofs.lemmas.Bool.{cases_Bool, both_ways, not_from_true, not_from_false}
 use Rattle.words.specs.declared.LatchSet.{LatchSet}
 use Rattle.words.specs.Sets.{has, Empty}
-use Rattle.book.specs.declared.book.Book.{Book}
 use Rattle.theory.specs.Class.{in_class?}
 use Rattle.theory.specs.Meaning.{InClass}
 use Rattle.theory.specs.Recipes.{kept?}
@@ -13,14 +12,14 @@ use Rattle.theory.specs.Tasks.{asks?}
 use Rattle.theory.proofs.Meant.{class_is_meant}
 use Rattle.theory.proofs.Searches.{some_below_true, some_below_from, none≢some}
 use Rattle.rules.specs.declared.refusal.Refusal.{Refusal}
-use Rattle.rules.specs.declared.refusal.Refusal.TheVariants.{Misfit, Misnamed, Outside, NoWay, Running, Idle, NoSuchMove, Illegal}
+use Rattle.rules.specs.declared.refusal.Refusal.TheVariants.{Misnamed, Outside, NoWay}
 use Rattle.rules.specs.Naming.{errand_of, Names, names?}
 use Rattle.rules.specs.NormalForm.{route}
 use Rattle.rules.specs.Rules.{Rules, Setting, Leads, RulesWithin}
 use Rattle.rules.proofs.Naming.{names_meant, errand_within}
 use Rattle.rules.proofs.Theorems.{normal_form_is_right, route_leads, no_way_is_none}
 use Rattle.tasks.specs.declared.task.NormalTask.{NormalTask}
-use Rattle.tasks.specs.Asks.{asks_of, rules_of, setting_of}
+use Rattle.tasks.specs.Asks.{asks_of}
 use Rattle.tasks.specs.Tasks.{task_of}
 use Rattle.routes.specs.declared.route.table.Route.{Route}
 use Rattle.routes.specs.Plans.{errand_task, refusal, Planned, LeadsThere, Says}

@@ -1,5 +1,5 @@
 -- The entries of a route, and its moves entry by entry.
-use Rattle.std.proofs.Common.{◌≡◌, ℕ, zero, suc, ◌+◌, ◌-◌, ◌*◌, ◌^◌, ◌<◌, ◌≤◌, Bool, true, List, [], ◌∷◌, ◌++◌, map, length, get_or, take, drop, None, sym, refl, ap, ◌∙◌, subst, arith, length-append}
+use Rattle.std.proofs.Common.{◌≡◌, ℕ, ◌+◌, ◌-◌, ◌*◌, ◌^◌, ◌<◌, ◌≤◌, Bool, true, List, [], ◌∷◌, ◌++◌, map, length, get_or, take, drop, None, sym, refl, ap, ◌∙◌, subst, arith, length-append}
 use lib.ListN.{length-map}
 use Rattle.std.proofs.lemmas.List.{map-append, drop_more, drop_all, take-append-drop, take-take, length-take, length-take-le, take_more, get_or-take}
 use Rattle.std.proofs.lemmas.Bool.{eq-eqb}
@@ -8,7 +8,6 @@ use Rattle.words.specs.declared.LatchSet.{LatchSet}
 use Rattle.words.specs.Bit.{bit}
 use Rattle.words.specs.Sets.{most_latches, has}
 use Rattle.words.proofs.BitLaws.{bit_not, bit_of_zero}
-use Rattle.theory.specs.Searches.{In}
 use Rattle.theory.specs.Recipes.{Part, moves_to, opened}
 use Rattle.theory.specs.Route.{set_route, kept_table, entries, route}
 use Rattle.theory.specs.Class.{in_class?}
@@ -27,7 +26,7 @@ use Rattle.routes.specs.Laid.{no_entry, entry_part, parts_of, rest, size, Extend
 use Rattle.routes.specs.Limits.{most_entries}
 use Rattle.routes.specs.Listed.{entry_numbers, route_numbers, Listed}
 use Rattle.routes.specs.Lookup.{nth}
-use Rattle.routes.specs.Made.{numbers, recipe_numbers, latch_at}
+use Rattle.routes.specs.Made.{numbers, latch_at}
 use Rattle.routes.specs.Orders.{order_of}
 use Rattle.routes.proofs.Nth.{nth_left, nth_behind}
 use Rattle.routes.proofs.Rests.{rest_within, size_most}

@@ -1,7 +1,7 @@
 -- One entry more behind the others.
-use Rattle.std.proofs.Common.{◌≡◌, ℕ, suc, ◌+◌, ◌<◌, ◌≤◌, Bool, true, false, List, [], ◌∷◌, ◌++◌, map, length, get_or, take, set, sym, refl, ap, ◌∙◌, subst, inl, inr, append-nil, add-one, arith}
+use Rattle.std.proofs.Common.{◌≡◌, ℕ, suc, ◌+◌, ◌<◌, Bool, true, List, [], ◌∷◌, ◌++◌, map, length, get_or, take, set, sym, ap, ◌∙◌, subst, inl, inr, arith}
 use Rattle.std.proofs.lemmas.List.{take_more_set, map_push, get_or-set_same, get_or-set_other}
-use Rattle.theory.specs.Recipes.{Part, recipe_of}
+use Rattle.theory.specs.Recipes.{recipe_of}
 use Rattle.theory.specs.Route.{when}
 use Rattle.theory.proofs.Searches.{below_cases}
 use Rattle.routes.specs.declared.order.list.Order.{Order}
@@ -9,7 +9,7 @@ use Rattle.routes.specs.declared.route.entries.Entries.{Entries}
 use Rattle.routes.specs.declared.route.entry.Entry.{Entry}
 use Rattle.routes.specs.Limits.{most_entries}
 use Rattle.routes.specs.Made.{latch_at}
-use Rattle.routes.specs.Laid.{no_entry, entry_at, entry_part, parts_of, Placed, Puts}
+use Rattle.routes.specs.Laid.{no_entry, entry_part, parts_of, Placed, Puts}
 
 module _ (es after : Entries) (place : ℕ) (to : Bool) (room : es.count < most_entries)
     (list : after.list ≡ set es.list es.count (record { place = place; to = to })) (count : after.count ≡ es.count + 1) where

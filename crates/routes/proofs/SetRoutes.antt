@@ -1,5 +1,5 @@
 -- The route of a set of latches, by its first latch, and from the latches of the list alone.
-use Rattle.std.proofs.Common.{◌≡◌, ℕ, Bool, true, false, not, ◌&&◌, List, [], ◌∷◌, ◌++◌, sym, refl, ap, ◌∙◌, ap₂, inl, inr, arith}
+use Rattle.std.proofs.Common.{◌≡◌, ℕ, Bool, true, false, not, ◌&&◌, List, [], ◌∷◌, refl, ap, ◌∙◌, ap₂, inl, inr, arith}
 use Rattle.theory.specs.Searches.{In}
 use Rattle.theory.specs.Tasks.{Task}
 use Rattle.theory.specs.Class.{side?, splitting?}

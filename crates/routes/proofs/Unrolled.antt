@@ -1,11 +1,10 @@
 -- A kept recipe, opened by the whole table: its helpers' recipes to 1, its move, and their recipes to 0.
-use Rattle.std.proofs.Common.{◌≡◌, ℕ, zero, suc, ◌<◌, ◌≤◌, Bool, true, false, ◌≢◌, List, [], ◌∷◌, ◌++◌, length, get_or, take, sym, refl, ap, ◌∙◌, subst, inl, inr, arith}
+use Rattle.std.proofs.Common.{◌≡◌, ℕ, zero, suc, ◌<◌, ◌≤◌, Bool, true, false, List, [], ◌∷◌, ◌++◌, length, get_or, sym, refl, ap, ◌∙◌, subst, inl, inr, arith}
 use lib.ListN.{length-map}
 use Rattle.std.proofs.lemmas.Bool.{cases_Bool, cases_lt}
 use Rattle.theory.specs.Searches.{In}
 use Rattle.theory.specs.Tasks.{Move, Task}
-use Rattle.theory.specs.Order.{order}
-use Rattle.theory.specs.Recipes.{Part, Kept, Table, kept?, recipe_to, moves_to, helper?, recipe_parts, opened, table_of}
+use Rattle.theory.specs.Recipes.{Kept, Table, kept?, recipe_to, moves_to, helper?, recipe_parts, opened, table_of}
 use Rattle.theory.specs.Recipes.{Recipe as RecipeMeant}
 use Rattle.theory.specs.Route.{kept_table}
 use Rattle.theory.proofs.Opening.{opened_alone, opened_unhelped, opened_helped}
@@ -15,8 +14,8 @@ use Rattle.tasks.specs.declared.task.NormalTask.{NormalTask}
 use Rattle.tasks.specs.Tasks.{task_of}
 use Rattle.routes.specs.declared.order.list.Order.{Order}
 use Rattle.routes.specs.declared.recipes.table.RecipeTable.{RecipeTable}
-use Rattle.routes.specs.Made.{numbers, latch_at, kept_place?, move_by, Orders, Counts, Within, Helpers, Opens}
-use Rattle.routes.specs.RecipesKept.{before, StandsFor, Tabled}
+use Rattle.routes.specs.Made.{numbers, latch_at, move_by, Orders, Counts, Within, Helpers, Opens}
+use Rattle.routes.specs.RecipesKept.{before, Tabled}
 use Rattle.routes.proofs.OrderFresh.{before_next, fresh_at, in_before, order_before}
 
 -- tables that keep the same of the latches before open a recipe alike

@@ -1,13 +1,13 @@
 -- Lists of legal moves of the book, from s, and runs of the task from all-zero: the same, with the same numbers.
 use Rattle.std.proofs.Common.{◌≡◌, ℕ, zero, suc, ◌+◌, ◌<◌, Bool, true, false, ◌≢◌, List, [], ◌∷◌, map, length, sym, refl, ap, ◌∙◌, subst, inl, inr, arith, length-set}
-use mathlib.Core.Option.{none, some}
+use mathlib.Core.Option.{some}
 use lib.ListN.{get_elem?}
 use Rattle.std.proofs.lemmas.Bool.{cases_eq}
 use Rattle.theory.specs.Searches.{In}
 use Rattle.theory.specs.Tasks as tasks
 use Rattle.theory.specs.Tasks.{Ask, any, Move, WellFormed, Run, ask_against}
 use Rattle.theory.proofs.Searches.{none≢some}
-use Rattle.rules.specs.Rules.{Rule, Rules, Errand, Setting, at, Legal, thrown, Throws, Leads, RulesWithin, ErrandWithin}
+use Rattle.rules.specs.Rules.{Rule, Rules, Errand, Setting, at, thrown, Throws, Leads, RulesWithin, ErrandWithin}
 use Rattle.rules.specs.NormalForm.{exchanged_ask, normal_asks, normal_move, dropped?, normal_moves, task, exchange, number_of}
 use Rattle.rules.proofs.NormalForm.{own_at_target, asks_own, asks_other, legal_normal, normal_legal, exchange_thrown}
 

@@ -7,7 +7,7 @@ use Rattle.std.specs.Prelude.{◌≡◌, ℕ, ◌/◌, ◌^◌, ◌<◌, Bool, t
 use Rattle.words.specs.declared.LatchSet.{LatchSet}
 use Rattle.words.specs.Sets.{has}
 use Rattle.theory.specs.Searches.{all_below}
-use Rattle.theory.specs.Tasks.{Ask, any, ask_for}
+use Rattle.theory.specs.Tasks.{any, ask_for}
 use Rattle.rules.specs.Rules.{Rules, Errand}
 
 -- a latch that is named is wanted at 1 if it is in the second set, else at 0

@@ -1,5 +1,5 @@
 -- What a call leaves of the panel, by the move that it throws.
-use Rattle.std.proofs.Common.{◌≡◌, ℕ, ◌<◌, Some, None, Option, sym, refl, ap, ◌∙◌, subst, inl, inr, arith}
+use Rattle.std.proofs.Common.{◌≡◌, ℕ, Some, None, Option, sym, refl, ap, ◌∙◌, arith}
 use lib.ListN.{get_elem?}
 use Rattle.book.specs.declared.book.Book.{Book}
 use Rattle.rules.specs.Rules.{Rules, Setting}
@@ -8,7 +8,7 @@ use Rattle.runs.specs.declared.Answer.{Answer}
 use Rattle.runs.specs.declared.Answer.TheVariants.{Found, Threw, Done, Declined}
 use Rattle.runs.specs.declared.Call.{Call}
 use Rattle.runs.specs.declared.Call.TheVariants.{Aim, Step, Nudge, Stop}
-use Rattle.runs.specs.Model.{Progress, Model, answered, thrown_by, setting_after, after}
+use Rattle.runs.specs.Model.{Progress, Model, thrown_by, setting_after, after}
 use Rattle.sequencer.specs.declared.machine.kept.Machine.{Machine}
 use Rattle.sequencer.specs.declared.machine.shown.Shown.{Shown}
 use Rattle.sequencer.specs.Machines.{model_of, Shows, moved, Does}

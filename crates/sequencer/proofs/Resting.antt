@@ -1,5 +1,5 @@
 -- What a machine at rest answers to aims and nudges, and what they leave.
-use Rattle.std.proofs.Common.{◌≡◌, ℕ, zero, suc, ◌<◌, ◌≤◌, Bool, true, false, eqb, ltb, List, [], ◌∷◌, map, length, get_or, take, Ok, Err, sym, refl, ap, ◌∙◌, subst, arith}
+use Rattle.std.proofs.Common.{◌≡◌, ℕ, zero, suc, ◌<◌, ◌≤◌, Bool, true, false, ltb, List, [], ◌∷◌, map, length, get_or, take, Ok, Err, sym, refl, ap, ◌∙◌, subst, arith}
 use mathlib.Core.Option.{Option, none, some}
 use lib.ListN.{get_elem?, length-map}
 use Rattle.std.proofs.lemmas.List.{length-take-le}
@@ -14,8 +14,8 @@ use Rattle.theory.proofs.Searches.{none≢some}
 use Rattle.rules.specs.declared.refusal.Refusal.{Refusal}
 use Rattle.rules.specs.declared.refusal.Refusal.TheVariants.{Misfit, NoSuchMove, Illegal}
 use Rattle.rules.specs.Naming.{errand_of, names?}
-use Rattle.rules.specs.NormalForm.{task, route}
-use Rattle.rules.specs.Rules.{Rule, Setting, Leads}
+use Rattle.rules.specs.NormalForm.{route}
+use Rattle.rules.specs.Rules.{Rule, Setting}
 use Rattle.tasks.specs.Asks.{rule_of, rules_of, setting_of}
 use Rattle.routes.specs.declared.route.table.Route.{Route}
 use Rattle.routes.specs.Plans.{errand_task, refusal, Planned, LeadsThere}
@@ -25,12 +25,12 @@ use Rattle.runs.specs.declared.Answer.TheVariants.{Found, Done, Declined}
 use Rattle.runs.specs.declared.Call.{Call}
 use Rattle.runs.specs.declared.Call.TheVariants.{Aim, Step, Nudge, Stop}
 use Rattle.runs.specs.Deciding.{fits?, legal?, legal_at?, aimed, nudged}
-use Rattle.runs.specs.Model.{Progress, resting, running, Model, answered_resting, answered_in, answered, opened, going_on, progress_after, after}
-use Rattle.runs.proofs.Places.{element_there, leads_below}
+use Rattle.runs.specs.Model.{Progress, resting, answered_resting, answered_in, answered, opened, going_on, progress_after, after}
+use Rattle.runs.proofs.Places.{leads_below}
 use Rattle.sequencer.specs.declared.machine.kept.Machine.{Machine}
 use Rattle.sequencer.specs.declared.machine.shown.Shown.{Shown}
 use Rattle.sequencer.specs.declared.machine.state.State.{State}
-use Rattle.sequencer.specs.declared.machine.state.State.TheVariants.{Idle, Running}
+use Rattle.sequencer.specs.declared.machine.state.State.TheVariants.{Idle}
 use Rattle.sequencer.specs.Machines.{progress_of, model_of, Shows, moved, BelowCount, Does}
 use Rattle.sequencer.specs.States.{progress_in}
 use Rattle.sequencer.proofs.Showing.{shown_whole}

@@ -1,16 +1,15 @@
 -- What a panel shows of its setting: the setting itself where it fits, and whether a move is legal there.
-use Rattle.std.proofs.Common.{◌≡◌, ℕ, ◌<◌, Bool, true, false, cond, not, ◌&&◌, List, length, get_or, Decides, sym, refl, ap, ◌∙◌, subst, ap₂, inl, inr, arith}
+use Rattle.std.proofs.Common.{◌≡◌, ℕ, Bool, true, false, cond, not, ◌&&◌, length, get_or, Decides, sym, refl, ap, ◌∙◌, inl, inr, arith}
 use mathlib.Core.Bool.{beq}
 use mathlib.Core.Option.{none, some}
 use Rattle.std.proofs.lemmas.List.{ext_get_or}
-use Rattle.std.proofs.lemmas.Bool.{both_ways, cases_Bool, cases_lt}
+use Rattle.std.proofs.lemmas.Bool.{both_ways, cases_Bool}
 use Rattle.words.specs.declared.LatchSet.{LatchSet}
 use Rattle.words.specs.Bit.{set?}
 use Rattle.words.specs.Sets.{has, has_minus, Below}
 use Rattle.words.proofs.Members.{set_ext}
 use Rattle.book.specs.declared.partial.PartialSetting.{PartialSetting}
 use Rattle.theory.specs.Searches.{all_below}
-use Rattle.theory.specs.Tasks.{ask_for}
 use Rattle.theory.proofs.Searches.{all_below_true, all_below_from}
 use Rattle.theory.proofs.Sides.{bool_ext}
 use Rattle.rules.specs.Rules.{Setting}

@@ -1,13 +1,12 @@
 -- Calls played one after another: one call more, and the whole run.
-use Rattle.std.proofs.Common.{◌≡◌, ℕ, ◌+◌, ◌<◌, List, [], ◌∷◌, ◌++◌, map, length, get_or, take, drop, set, sym, refl, ap, ◌∙◌, subst, ap₂, arith}
+use Rattle.std.proofs.Common.{◌≡◌, ℕ, ◌+◌, ◌<◌, List, [], ◌∷◌, ◌++◌, map, length, get_or, take, drop, set, sym, ap, ◌∙◌, subst, ap₂, arith}
 use Rattle.std.proofs.lemmas.List.{take_more, take_more_set, map_push, drop-drop, drop-set-lt}
 use Rattle.book.specs.declared.book.Book.{Book}
-use Rattle.rules.specs.Rules.{Rules, Setting}
+use Rattle.rules.specs.Rules.{Setting}
 use Rattle.tasks.specs.Asks.{rules_of}
 use Rattle.tasks.proofs.Bridge.{book_within}
 use Rattle.runs.specs.declared.Answer.{Answer}
 use Rattle.runs.specs.declared.Call.{Call}
-use Rattle.runs.specs.Calls.{Seen}
 use Rattle.runs.specs.Law.{Law}
 use Rattle.runs.specs.Model.{Model, new, answered, after, seen_of, seen, last}
 use Rattle.runs.proofs.Law.{runs_keep_the_law}

@@ -1,7 +1,7 @@
 -- The recipe that is chosen is made by a move that serves, and one is chosen exactly when some move serves.
 -- The first two lemmas are all that is used of `chosen`.
 use Rattle.std.proofs.Common.{◌≡◌, ℕ, Bool, true, false, cond, List, [], ◌∷◌, map, filter, sym, refl, ap, ◌∙◌, inl, inr}
-use mathlib.Core.Option.{none, some}
+use mathlib.Core.Option.{some}
 use Rattle.std.proofs.lemmas.Bool.{both_ways}
 use Rattle.theory.specs.Searches.{In}
 use Rattle.theory.specs.Tasks.{Move, Task}

@@ -45,8 +45,8 @@ fn contents(rt: HostRuntime) -> Result<(), Fail> {
     let book = errand.book;
     assert_eq!(rt; book.latches, 2);
     assert_eq!(rt; book.count, 1);
-    assert!(rt; book.names[0].as_bytes() == b"AB");
-    assert!(rt; book.names[1].as_bytes() == b"C");
+    assert!(rt; book.names[0].as_bytes() == b"AB".as_slice());
+    assert!(rt; book.names[1].as_bytes() == b"C".as_slice());
     assert!(rt; book.names[2].as_bytes().is_empty());
     assert_eq!(rt; book.moves[0].latch, 1);
     assert!(rt; book.moves[0].to);

@@ -1,6 +1,4 @@
-use Rattle.std.proofs.Common.{◌≡◌, ℕ, List, sym, ap, ◌∙◌}
-use Rattle.words.specs.declared.LatchSet.{LatchSet}
-use Rattle.book.specs.declared.book.Book.{Book}
+use Rattle.std.proofs.Common.{sym, ap, ◌∙◌}
 use Rattle.theory.specs.Class.{in_class?}
 use Rattle.theory.specs.Route.{no_way?}
 use Rattle.theory.specs.Route as routes

@@ -1,4 +1,4 @@
-use Rattle.std.proofs.Common.{◌≡◌, Bool, true, false, not, ◌&&◌, get_or, sym, ap, ◌∙◌}
+use Rattle.std.proofs.Common.{Bool, false, not, ◌&&◌, get_or, sym, ap, ◌∙◌}
 use mathlib.Core.Bool.{beq}
 use Rattle.theory.specs.Searches.{all_below}
 use Rattle.runs.specs.Deciding.{met?}

@@ -1,4 +1,4 @@
-use Rattle.std.proofs.Common.{◌≡◌, ℕ, length, take, drop, sym, ap, ◌∙◌, subst}
+use Rattle.std.proofs.Common.{◌≡◌, ℕ, take, drop, ap, subst}
 use Rattle.tasks.specs.Asks.{rules_of}
 use Rattle.sequencer.specs.Machines.{model_of}
 use Rattle.sequencer.specs.Playing.{WholeRun}

@@ -1,4 +1,4 @@
-use Rattle.std.proofs.Common.{◌≡◌, sym, refl, ap, ◌∙◌}
+use Rattle.std.proofs.Common.{sym, refl, ap, ◌∙◌}
 use lib.ListN.{get_elem?}
 use Rattle.book.specs.declared.book.Book.{Book}
 use Rattle.tasks.specs.Asks.{rules_of}

@@ -1,5 +1,4 @@
-use Rattle.std.proofs.Common.{◌≡◌, ℕ, ◌-◌, ◌<◌, Bool, true, false, List, [], ◌∷◌, ◌++◌, length, Some, Option, sym, refl, ap, ◌∙◌, subst, append-nil, arith}
-use Rattle.words.specs.declared.LatchSet.{LatchSet}
+use Rattle.std.proofs.Common.{◌≡◌, ℕ, ◌-◌, ◌<◌, Bool, true, false, List, [], ◌∷◌, ◌++◌, length, Some, sym, refl, ap, ◌∙◌, append-nil, arith}
 use Rattle.tasks.specs.declared.task.NormalMove.{NormalMove}
 use Rattle.std.proofs.lemmas.List.{get_or_default}
 use Rattle.tasks.specs.Places.{no_move, move_at}

@@ -1,4 +1,4 @@
-use Rattle.std.proofs.Common.{◌≡◌, ◌+◌, ◌*◌, ◌≤◌, refl, arith}
+use Rattle.std.proofs.Common.{refl, arith}
 use Rattle.words.specs.Sets.{has}
 use Rattle.routes.proofs.Listing.{all_fit, all_laid}
 use Rattle.routes.proofs.recipes.kept.Recipes.entries.Goals as goal

@@ -1,6 +1,6 @@
 use Rattle.std.proofs.Common.{◌+◌, refl, arith}
 use Rattle.routes.specs.Listed.{entry_numbers}
-use Rattle.routes.proofs.Listing.{read_before, stops, more_moves, fewer_moves, read_entry, entries_room, entry_counted, entry_placed}
+use Rattle.routes.proofs.Listing.{read_before, more_moves, fewer_moves, read_entry, entries_room, entry_counted, entry_placed}
 use Rattle.routes.proofs.recipes.kept.Recipes.length.Goals as goal
 
 pub recipe-length-requires : goal.recipe-length-requires

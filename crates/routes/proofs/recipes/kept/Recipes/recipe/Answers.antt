@@ -1,4 +1,3 @@
-use Rattle.std.proofs.Common.{◌<◌, arith}
 use Rattle.routes.proofs.OrderFresh.{latch_below}
 use Rattle.routes.proofs.recipes.kept.Recipes.recipe.Goals as goal
 

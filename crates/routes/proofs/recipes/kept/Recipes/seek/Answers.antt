@@ -1,4 +1,4 @@
-use Rattle.std.proofs.Common.{◌≡◌, ℕ, ◌<◌, Bool, true, false, List, length, get_or, sym, ap, ◌∙◌, subst, arith}
+use Rattle.std.proofs.Common.{◌≡◌, ℕ, ◌<◌, true, false, length, get_or, sym, ap, ◌∙◌, subst, arith}
 use Rattle.words.specs.Sets.{has}
 use Rattle.routes.specs.declared.recipes.recipe.Recipe.{Recipe}
 use Rattle.routes.specs.Lookup.{nth, in_turn}

@@ -3,8 +3,6 @@ use Rattle.words.specs.declared.LatchSet.{LatchSet}
 use Rattle.words.specs.Sets.{has}
 use Rattle.theory.specs.Tasks.{asks?}
 use Rattle.theory.specs.Class.{side?, splitting?}
-use Rattle.theory.specs.Recipes.{kept?}
-use Rattle.theory.specs.Route.{kept_table}
 use Rattle.tasks.specs.Asks.{asks_of}
 use Rattle.tasks.specs.Tasks.{task_of}
 use Rattle.routes.specs.declared.recipes.kept.Recipes.{Recipes}

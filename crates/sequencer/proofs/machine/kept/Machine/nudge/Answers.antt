@@ -1,4 +1,4 @@
-use Rattle.std.proofs.Common.{◌≡◌, ◌<◌, Bool, length, get_or, sym, ap, ◌∙◌, subst, arith}
+use Rattle.std.proofs.Common.{◌≡◌, get_or, sym, ap, ◌∙◌, subst, arith}
 use Rattle.std.proofs.lemmas.List.{get_or_default}
 use Rattle.words.specs.Sets.{Below}
 use Rattle.book.specs.declared.moves.Move.{Move}
@@ -6,8 +6,6 @@ use Rattle.book.specs.Places.{no_move, move_at}
 use Rattle.rules.specs.Rules.{Setting}
 use Rattle.runs.specs.Deciding.{legal?}
 use Rattle.tasks.specs.Asks.{rule_of, rules_of}
-use Rattle.sequencer.specs.declared.machine.kept.Machine.{Machine}
-use Rattle.sequencer.specs.declared.machine.shown.Shown.{Shown}
 use Rattle.sequencer.specs.Machines.{Shows}
 use Rattle.sequencer.proofs.Resting.{nudge_nowhere, nudge_illegal, nudge_done}
 use Rattle.sequencer.proofs.machine.kept.Machine.nudge.Goals as goal
