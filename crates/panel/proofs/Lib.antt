@@ -1,3 +1,5 @@
+pub mod Rows
 pub mod Switched
+pub mod Masks
 mod Fronts
 mod Pulses

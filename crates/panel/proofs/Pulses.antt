@@ -4,7 +4,7 @@ use Rattle.std.proofs.lemmas.List.{get_or-set_same, get_or-set_other}
 use Rattle.panel.specs.declared.relay.Coils.{Coils}
 use Rattle.panel.specs.Settings.{row}
 use Rattle.panel.specs.Kinds.{coil_at, up?, resting, pulse_limit, pulsed, coils_at, counted}
-use Rattle.panel.specs.Rows.{getD_row, set_row, row_ext, row_const}
+use Rattle.panel.proofs.Rows.{getD_row, set_row, row_ext, row_const}
 
 up_coil : (b : Bool) → up? (coil_at b) ≡ b
 up_coil true = refl

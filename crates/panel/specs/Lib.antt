@@ -1,4 +1,2 @@
 pub mod Settings
 pub mod Kinds
-pub mod Masks
-pub mod Rows

@@ -4,7 +4,7 @@ ghost use Rattle.words.specs.Sets.{has};
 ghost use Rattle.panel.specs.Settings.{row, thrown, made};
 ghost use Rattle.panel.specs.Kinds.{register_setting};
 ghost use Rattle.std.proofs.Common.{arith};
-ghost use Rattle.panel.specs.Rows.{length_row};
+ghost use Rattle.std.proofs.lemmas.List.FromFn.{length-map-range_with_len};
 
 use super::Panel;
 use super::width::Width;
@@ -33,9 +33,9 @@ impl Register {
 impl Panel for Register {
     ghost setting = { register_setting };
 
-    ghost some = { λ p. omega (arith, length_row p.width.count (has p.raised)) };
+    ghost some = { λ p. omega (arith, length-map-range_with_len (has p.raised) 0 p.width.count) };
 
-    ghost few = { λ p. omega (arith, length_row p.width.count (has p.raised)) };
+    ghost few = { λ p. omega (arith, length-map-range_with_len (has p.raised) 0 p.width.count) };
 
     fn width(&self) -> u8 {
         self.width.count()

@@ -4,7 +4,7 @@ ghost use Rattle.words.specs.Bit.{set?};
 ghost use Rattle.panel.specs.Settings.{widest, row, clamped, made, within?, thrown};
 ghost use Rattle.panel.specs.Kinds.{coil_at, up?, resting, pulsed, coils_at, relay_setting, relay_counts, counted, count_at, CoilsOf};
 ghost use Rattle.std.proofs.Common.{arith};
-ghost use Rattle.panel.specs.Rows.{length_row};
+ghost use Rattle.std.proofs.lemmas.List.FromFn.{length-map-range_with_len};
 
 use super::Panel;
 use super::width::{WIDEST, Width};
@@ -137,9 +137,9 @@ fn all_resting(positions: u32) -> [Coils; WIDEST as usize]
 impl Panel for Relay {
     ghost setting = { relay_setting };
 
-    ghost some = { λ p. omega (arith, length_row p.width.count (λ (i : ℕ). up? (coils_at p.coils i).last)) };
+    ghost some = { λ p. omega (arith, length-map-range_with_len (λ (i : ℕ). up? (coils_at p.coils i).last) 0 p.width.count) };
 
-    ghost few = { λ p. omega (arith, length_row p.width.count (λ (i : ℕ). up? (coils_at p.coils i).last)) };
+    ghost few = { λ p. omega (arith, length-map-range_with_len (λ (i : ℕ). up? (coils_at p.coils i).last) 0 p.width.count) };
 
     fn width(&self) -> u8 {
         self.width.count()

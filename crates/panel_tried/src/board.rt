@@ -3,7 +3,7 @@ ghost use Rattle.std.specs.Prelude.{◌≡◌};
 ghost use Rattle.panel.specs.Settings.{row, clamped};
 ghost use Rattle.panel_tried.specs.Boards.{place, board_setting};
 ghost use Rattle.std.proofs.Common.{arith};
-ghost use Rattle.panel.specs.Rows.{length_row};
+ghost use Rattle.panel.proofs.Rows.{length_row};
 
 use panel::Panel;
 use panel::width::{WIDEST, Width};

@@ -1,6 +1,6 @@
 use Rattle.std.proofs.Common.{sym, ◌∙◌, arith}
 use Rattle.words.specs.Sets.{has}
-use Rattle.panel.specs.Rows.{set_row, set_row_past}
+use Rattle.panel.proofs.Rows.{set_row, set_row_past}
 use Rattle.panel.proofs.Switched.{with_here, with_other, without_here, without_other}
 use Rattle.panel.proofs.register.put.Goals as goal
 

@@ -1,5 +1,5 @@
 use Rattle.std.proofs.Common.{true, false, ◌∙◌}
-use Rattle.panel.specs.Masks.{looked_flipped, looked_flipped_past}
+use Rattle.panel.proofs.Masks.{looked_flipped, looked_flipped_past}
 use Rattle.panel.proofs.flip.FlipPanel.look.Goals as goal
 
 pub returns-in_err-position : goal.returns-in_err-position

@@ -1,5 +1,5 @@
 use Rattle.std.proofs.Common.{sym, refl, ◌∙◌}
-use Rattle.panel.specs.Masks.{within_flipped, thrown_flipped}
+use Rattle.panel.proofs.Masks.{within_flipped, thrown_flipped}
 use Rattle.panel.proofs.flip.FlipPanel.throw.Goals as goal
 
 pub returns : goal.returns

@@ -1,7 +1,7 @@
 use Rattle.std.proofs.Common.{ℕ, false}
 use Rattle.panel.specs.Settings.{digit}
 use Rattle.panel.specs.Kinds.{up?, coils_at}
-use Rattle.panel.specs.Rows.{read_row, read_row_past}
+use Rattle.panel.proofs.Rows.{read_row, read_row_past}
 use Rattle.panel.proofs.relay.Relay.coils_of.Goals as goal
 
 pub returns-then-not-has : goal.returns-then-not-has

@@ -2,7 +2,7 @@ use Rattle.std.proofs.Common.{◌≡◌, ℕ, ◌<◌, length, sym, refl, ap, �
 use Rattle.std.proofs.lemmas.Bool.{ltb-true}
 use Rattle.panel.specs.declared.relay.Coil.{Coil}
 use Rattle.panel.specs.Kinds.{coil_at, up?, pulsed, coils_at}
-use Rattle.panel.specs.Rows.{set_row_past}
+use Rattle.panel.proofs.Rows.{set_row_past}
 use Rattle.panel.proofs.Pulses.{positions_pulsed, counts_pulsed}
 use Rattle.panel.proofs.relay.Relay.pulse.Goals as goal
 

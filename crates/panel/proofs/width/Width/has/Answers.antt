@@ -1,5 +1,5 @@
 use Rattle.std.proofs.Common.{sym, refl}
-use Rattle.panel.specs.Rows.{within_row}
+use Rattle.panel.proofs.Rows.{within_row}
 use Rattle.panel.proofs.width.Width.has.Goals as goal
 
 pub returns : goal.returns

@@ -1,6 +1,6 @@
 use Rattle.std.proofs.Common.{ℕ, false, Some, ap, ◌∙◌}
 use Rattle.panel.specs.Settings.{digit}
-use Rattle.panel.specs.Rows.{read_row}
+use Rattle.panel.proofs.Rows.{read_row}
 use Rattle.panel.proofs.width.Width.shown.Goals as goal
 
 pub returns : goal.returns

@@ -1,6 +1,6 @@
 use Rattle.std.proofs.Common.{false, set, arith}
 use Rattle.std.proofs.lemmas.List.{get_or-set_same, get_or-set_other}
-use Rattle.panel.specs.Rows.{set_row, set_row_past}
+use Rattle.panel.proofs.Rows.{set_row, set_row_past}
 use Rattle.panel_tried.specs.Boards.{place}
 use Rattle.panel_tried.proofs.board.BoardPanel.throw.Goals as goal
 

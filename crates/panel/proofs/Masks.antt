@@ -6,7 +6,7 @@ use Rattle.std.proofs.lemmas.Bool.{lt-ltb, le-ltb, cond-true, cond-false, cases_
 use Rattle.words.specs.declared.LatchSet.{LatchSet}
 use Rattle.words.specs.Sets.{has}
 use Rattle.panel.specs.Settings.{row, digit, within?, looked, thrown, differs, flipped}
-use Rattle.panel.specs.Rows.{length_row, within_row, read_row, read_row_past, set_row}
+use Rattle.panel.proofs.Rows.{length_row, within_row, read_row, read_row_past, set_row}
 
 differs_twice : (a b : Bool) → differs (differs a b) b ≡ a
 differs_twice true true = refl
