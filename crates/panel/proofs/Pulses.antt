@@ -4,7 +4,7 @@ use Rattle.std.proofs.lemmas.List.{get_or-set_same, get_or-set_other}
 use Rattle.panel.specs.declared.relay.Coils.{Coils}
 use Rattle.panel.specs.Settings.{row}
 use Rattle.panel.specs.Kinds.{coil_at, up?, resting, pulse_limit, pulsed, coils_at, counted}
-use Rattle.panel.proofs.Rows.{getD_row, set_row, row_ext, row_const}
+use Rattle.panel.proofs.Rows.{get_row, set_row, row_ext, row_const}
 
 up_coil : (b : Bool) → up? (coil_at b) ≡ b
 up_coil true = refl
@@ -36,5 +36,5 @@ module _ (css : List Coils) (i : ℕ) (b : Bool) (v : Coils) (l : i < length css
       set_row n i _ _ _
       (λ h.
       ap (λ (cs : Coils). cs.pulses) here
-      ∙ ap (λ (k : ℕ). min (k + 1) pulse_limit) (sym (getD_row n (λ j. (coils_at css j).pulses) i 0 h)))
+      ∙ ap (λ (k : ℕ). min (k + 1) pulse_limit) (sym (get_row n (λ j. (coils_at css j).pulses) i 0 h)))
       (λ j ne. ap (λ (cs : Coils). cs.pulses) (other j ne))

@@ -10,8 +10,8 @@ module _ {X : Type 0} (n : ℕ) (f : ℕ → X) where
   pub length_row : length (row n f) ≡ n
   length_row = length-map-range_with_len f 0 n
 
-  pub getD_row : (i : ℕ) (d : X) → i < n → slice_index_or (row n f) i d ≡ f i
-  getD_row i d h = get_or-map-range_with_len f 0 n i i d h (zero-add i)
+  pub get_row : (i : ℕ) (d : X) → i < n → slice_index_or (row n f) i d ≡ f i
+  get_row i d h = get_or-map-range_with_len f 0 n i i d h (zero-add i)
 
   -- place i is within the row exactly if it is below n
   pub within_row : (i : ℕ) → nat_lt i (length (row n f)) ≡ nat_lt i n
@@ -20,7 +20,7 @@ module _ {X : Type 0} (n : ℕ) (f : ℕ → X) where
   -- a read at a place of the row, and at none
   pub read_row : {Y : Type 0} (h : X → Y) (i : ℕ) (d : X) → true ≡ nat_lt i n → Some (h (f i)) ≡ cond (nat_lt i (length (row n f))) (Some (h (slice_index_or (row n f) i d))) None
   read_row h i d e =
-      sym (cond-true _ _ _ (within_row i ∙ sym e) ∙ ap (λ (x : X). Some (h x)) (getD_row i d (ltb-true i n (sym e))))
+      sym (cond-true _ _ _ (within_row i ∙ sym e) ∙ ap (λ (x : X). Some (h x)) (get_row i d (ltb-true i n (sym e))))
 
   pub read_row_past : {Y : Type 0} (h : X → Y) (i : ℕ) (d : X) → false ≡ nat_lt i n → None ≡ cond (nat_lt i (length (row n f))) (Some (h (slice_index_or (row n f) i d))) None
   read_row_past h i d e = sym (cond-false _ _ _ (within_row i ∙ sym e))
@@ -37,18 +37,18 @@ set_row {X} n i f g x here other =
   where
     at : (k : ℕ) (d : X) → k < n → (k ≡ i) ⊎ (k ≢ i) → slice_index_or (row n g) k d ≡ slice_index_or (slice_set (row n f) i x) k d
     at k d l (inl e) =
-        getD_row n g k d l ∙ ap g e ∙ here (omega arith)
+        get_row n g k d l ∙ ap g e ∙ here (omega arith)
         ∙ sym (get_or-set_same (row n f) i x d (omega (arith, length_row n f))) ∙ ap (λ (m : ℕ). get_or (slice_set (row n f) i x) m d) (sym e)
-    at k d l (inr ne) = getD_row n g k d l ∙ other k ne ∙ sym (getD_row n f k d l) ∙ sym (get_or-set_other (row n f) i k x d ne)
+    at k d l (inr ne) = get_row n g k d l ∙ other k ne ∙ sym (get_row n f k d l) ∙ sym (get_or-set_other (row n f) i k x d ne)
 
 -- rows that agree at each place are one
 pub row_ext : {X : Type 0} (n : ℕ) (f g : ℕ → X) → ((j : ℕ) → j < n → f j ≡ g j) → row n f ≡ row n g
 row_ext n f g same =
     same_lists _ _ (length_row n f ∙ sym (length_row n g))
-    (λ k d l. let h : k < n = omega (arith, length_row n f) in getD_row n f k d h ∙ same k h ∙ sym (getD_row n g k d h))
+    (λ k d l. let h : k < n = omega (arith, length_row n f) in get_row n f k d h ∙ same k h ∙ sym (get_row n g k d h))
 
 -- a row with the same at each place
 pub row_const : {X : Type 0} (n : ℕ) (x : X) → row n (λ _. x) ≡ replicate n x
 row_const n x =
     same_lists _ _ (length_row n (λ _. x) ∙ sym (length-replicate n x))
-    (λ k d l. let h : k < n = omega (arith, length_row n (λ _. x)) in getD_row n (λ _. x) k d h ∙ sym (get_or-replicate n k x d h))
+    (λ k d l. let h : k < n = omega (arith, length_row n (λ _. x)) in get_row n (λ _. x) k d h ∙ sym (get_or-replicate n k x d h))

@@ -12,7 +12,7 @@ use Rattle.planner.specs.declared.task.NormalTask.{NormalTask}
 use Rattle.planner.specs.Places.{move_at}
 use Rattle.planner.specs.Tasks.{move_of, moves_of, task_of}
 use Rattle.planner.specs.RecipesKept.{Helps, Made}
-use Rattle.planner.proofs.Found.{Reads, Stops, some_to, place_before, place_read, place-end}
+use Rattle.planner.proofs.Found.{Reads, Stops, some_to, place_before, place_read, place_end}
 
 module _ (test : Move → Bool) (make : Move → RecipeMeant) where
   -- where no move passes none is taken
@@ -49,7 +49,7 @@ module _ (t : NormalTask) (kept : Table) (v : ℕ) (placed : List ℕ) (x : Bool
   unfolding by
   none_made i stops h =
       none_chosen (serves? (task_of t) kept v x) by (moves_of t)
-      (ap (some_to (serves? (task_of t) kept v x) t.moves) (sym (place-end t.moves t.count i stops)) ∙ h)
+      (ap (some_to (serves? (task_of t) kept v x) t.moves) (sym (place_end t.moves t.count i stops)) ∙ h)
 
   -- the first move that serves makes the recipe
   pub first_made :

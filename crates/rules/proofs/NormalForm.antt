@@ -8,7 +8,7 @@ use Rattle.theory.proofs.Running.{put_same, put_other}
 use Rattle.rules.specs.Rules.{Rule, Rules, Errand, Setting, at, Legal, thrown, MetBy}
 use Rattle.rules.specs.NormalForm.{exchanged, exchanged_ask, normal_asks, normal_move, dropped?, task, exchange}
 
--- the start, exchanged, is all all-zero
+-- the start, exchanged, is all zero
 exchanged_self : (b : Bool) → exchanged b b ≡ false
 exchanged_self true = refl
 exchanged_self false = refl
@@ -31,7 +31,7 @@ exchanged_met at_zero p true h = not-true p h
 exchanged_met at_one p false h = h
 exchanged_met at_one p true h = not-false p h
 
--- a latch is not yet at its target just when it stands, exchanged, ask-against to it
+-- a latch is not yet at its target just when it stands, exchanged, opposite to it
 opposite_met : (p to b : Bool) → p ≢ to → Met (ask_against (exchanged to b)) (exchanged p b)
 opposite_met true true b n = absurd (n refl)
 opposite_met false false b n = absurd (n refl)

@@ -2,7 +2,7 @@
 --   Finding r w s a       a is the right answer to an aim at w from s, where w is in the class
 --   Finds r turn x        each aim is answered so that is made while idle, on a panel that fits, with sets that name aright, in the class
 --   Throwing r turn x     a granted step or nudge throws its move, legally, and no other call changes the panel
---   Goes_on r w s i x     a step of the run along the route from s to w, made with i steps granted before it
+--   GoesOn r w s i x      a step of the run along the route from s to w, made with i steps granted before it
 --   Finishes r turn x     each step of a run is granted and is the next of the route, and the last one leaves the errand met
 --   WhileIdle x           a step and a stop are refused, and nothing is refused because of a run
 --   WhileUnderWay x       an aim and a nudge are refused, and a stop is granted
@@ -62,7 +62,7 @@ Throwing r turn x =
     ]
 
 -- the route's move at place i is thrown, what is left is counted, and with none left the errand is met
-pub record Goes_on (r : Rules) (w : Errand) (s : Setting) (i : ℕ) (x : Seen) : Type 0 where
+pub record GoesOn (r : Rules) (w : Errand) (s : Setting) (i : ℕ) (x : Seen) : Type 0 where
   pub number : ℕ
   pub left : ℕ
   pub answered : x.answer ≡ Threw number left
@@ -72,7 +72,7 @@ pub record Goes_on (r : Rules) (w : Errand) (s : Setting) (i : ℕ) (x : Seen) :
 
 -- a route of no moves finds the errand met
 abbrev pub Finishes : Rules → Turn → Seen → Type 0
-Finishes r (under_way w s i) x = x.call ≡ Step → Goes_on r w s i x
+Finishes r (under_way w s i) x = x.call ≡ Step → GoesOn r w s i x
 Finishes r idle x = (named wanted : LatchSet) → x.call ≡ Aim named wanted → x.answer ≡ Found 0 → MetBy (errand_of named wanted) x.after
 
 -- no run is under way

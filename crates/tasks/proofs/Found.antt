@@ -40,8 +40,8 @@ pub place_before : (ms : List NormalMove) (n i : ℕ) → i < length (take (n - 
 place_before ms n i l = (omega (arith, length-take (n - 0) ms), omega (arith, length-take (n - 0) ms))
 
 -- the loop stops at n
-pub place-end : (ms : List NormalMove) (n i : ℕ) → Stops ms n i → i ≡ n
-place-end ms n i s = omega (arith, length-take (n - 0) ms)
+pub place_end : (ms : List NormalMove) (n i : ℕ) → Stops ms n i → i ≡ n
+place_end ms n i s = omega (arith, length-take (n - 0) ms)
 
 -- the move that is read is the one at the place
 pub place_read : (ms : List NormalMove) (n i : ℕ) (m : NormalMove) → Reads ms n i m → m ≡ move_at ms i
@@ -118,7 +118,7 @@ found_added test ms n i m b t r h k = ap (λ z. b || z) (sym k) ∙ ap (λ z. z 
 
 -- what is found where the loop stops is found in all
 pub found_all : (test : Move → Bool) (ms : List NormalMove) (n i : ℕ) (b : Bool) → Stops ms n i → b ≡ some_to test ms i → b ≡ some_to test ms n
-found_all test ms n i b s h = h ∙ ap (some_to test ms) (place-end ms n i s)
+found_all test ms n i b s h = h ∙ ap (some_to test ms) (place_end ms n i s)
 
 -- the same of all found but the latch itself
 pub found_but : (test : Move → Bool) (ms : List NormalMove) (n i : ℕ) (f : LatchSet) (u v : ℕ) → Stops ms n i → has f u ≡ some_to test ms i → has_without f v u ≡ (not (eqb u v) && some_to test ms n)
@@ -140,7 +140,7 @@ all_more test ms n i m r h t =
 
 -- each move passes
 pub all_all : (test : Move → Bool) (ms : List NormalMove) (n i : ℕ) → Stops ms n i → all_to test ms i ≡ true → all_to test ms n ≡ true
-all_all test ms n i s h = ap (all_to test ms) (sym (place-end ms n i s)) ∙ h
+all_all test ms n i s h = ap (all_to test ms) (sym (place_end ms n i s)) ∙ h
 
 -- one element fails
 pub all_of_fails : {A : Type 0} (test : A → Bool) (xs : List A) (x : A) → In xs x → test x ≡ false → all_of test xs ≡ false
