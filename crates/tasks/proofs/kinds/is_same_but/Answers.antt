@@ -8,8 +8,8 @@ use Rattle.tasks.proofs.KindsAlike.{alike_same, same_named_sets, same_ones_sets}
 use Rattle.tasks.proofs.kinds.is_same_but.Goals as goal
 
 -- equal words have the same members
-same-members : (s t a b : LatchSet) (v : ℕ) → ((j : ℕ) → has a j ≡ has_without s v j) → ((j : ℕ) → has b j ≡ has_without t v j) → a.word ≡ b.word → (u : ℕ) → has_without s v u ≡ has_without t v u
-same-members s t a b v p q e u = sym (p u) ∙ ap (λ (w : ℕ). set? w u) e ∙ q u
+same_members : (s t a b : LatchSet) (v : ℕ) → ((j : ℕ) → has a j ≡ has_without s v j) → ((j : ℕ) → has b j ≡ has_without t v j) → a.word ≡ b.word → (u : ℕ) → has_without s v u ≡ has_without t v u
+same_members s t a b v p q e u = sym (p u) ∙ ap (λ (w : ℕ). set? w u) e ∙ q u
 
 -- sets with the same members have equal words
 same_word : (s t a b : LatchSet) (v : ℕ) → ((j : ℕ) → has a j ≡ has_without s v j) → ((j : ℕ) → has b j ≡ has_without t v j) → ((u : ℕ) → has_without s v u ≡ has_without t v u) → a.word ≡ b.word
@@ -19,9 +19,9 @@ pub returns-then-eq : goal.returns-then-eq
 returns-then-eq c = (
   λ t.
       alike_same c.args.latch c.args.p c.args.q
-      (same-members c.args.p.named c.args.q.named c.without.result c.without-2.result c.args.latch c.without.ensures
+      (same_members c.args.p.named c.args.q.named c.without.result c.without-2.result c.args.latch c.without.ensures
       c.without-2.ensures (eqb-true _ _ (sym c.eq.ensures ∙ c.if-eq.true)))
-      (same-members c.args.p.ones c.args.q.ones c.without-then-eq.result c.without-then-eq-2.result c.args.latch
+      (same_members c.args.p.ones c.args.q.ones c.without-then-eq.result c.without-then-eq-2.result c.args.latch
       c.without-then-eq.ensures c.without-then-eq-2.ensures (eqb-true _ _ (sym c.eq-then-eq.ensures ∙ t))),
   λ h.
       c.eq-then-eq.ensures

@@ -14,18 +14,18 @@ use Rattle.routes.proofs.route.table.Route.none.Goals as goal
 abbrev blank : Task
 blank = record { width = 0; moves = []; want = asks_of nothing_asked }
 
-blank-in_class : in_class? blank ≡ true
+blank_in_class : in_class? blank ≡ true
 unfolding in_class? acyclic?
-blank-in_class = refl
+blank_in_class = refl
 
-blank-route : route blank ≡ []
+blank_route : route blank ≡ []
 unfolding route entries order latest_first placing set_route
-blank-route = refl
+blank_route = refl
 
 pub of-requires-2 : goal.of-requires-2
-of-requires-2 c = ap (λ (t : NormalTask). in_class? (task_of t)) c.of.ensures ∙ ap in_class? c.blank.ensures ∙ blank-in_class
+of-requires-2 c = ap (λ (t : NormalTask). in_class? (task_of t)) c.of.ensures ∙ ap in_class? c.blank.ensures ∙ blank_in_class
 
 pub returns : goal.returns
 returns c =
     c.of-2.ensures ∙ ap (λ (t : NormalTask). numbers (route (task_of t))) c.of.ensures ∙ ap (λ (t : Task). numbers (route t)) c.blank.ensures
-    ∙ ap numbers blank-route
+    ∙ ap numbers blank_route
