@@ -1,5 +1,5 @@
 //! Tasks in normal form: all latches start at 0.
-ghost use Rattle.std.specs.Prelude.{◌≡◌, ℕ, ◌<◌, ◌≤◌, true, not, length};
+ghost use Rattle.std.specs.Prelude.{◌≡◌, ℕ, ◌<◌, ◌≤◌, true, not, length, take};
 ghost use Rattle.words.specs.Sets.{most_latches, has, Below};
 ghost use Rattle.book.specs.Limits.{most_moves};
 ghost use Rattle.tasks.specs.Places.{move_at};
@@ -30,4 +30,14 @@ pub struct NormalTask {
     ghost asks_own: { (k : ℕ) → k < count → has (move_at moves k).asks.named (move_at moves k).latch ≡ true },
     ghost opposite: { (k : ℕ) → k < count → has (move_at moves k).asks.ones (move_at moves k).latch ≡ not (move_at moves k).to },
     ghost wanted: { Below width want.named },
+}
+
+impl NormalTask {
+    /// The moves of the task, by rising number.
+    pub fn moves(&self) -> &[NormalMove]
+        ensures list { result.now ≡ take self.now.count self.now.moves }
+        ensures few { length result.now ≤ most_moves }
+    {
+        &self.moves[0..self.count as usize]
+    }
 }
