@@ -10,6 +10,8 @@ use format::TextRefusal;
 use panel::Panel;
 use panel::register::Register;
 use planner::judge;
+use rules::Refusal;
+use said::{Items, name};
 use std::io::Read;
 use std::{env, fs};
 use theory::Judgement;
@@ -41,16 +43,17 @@ fn input(rt: &HostRuntime) -> anyhow::Result<Vec<u8>> {
 /// Prints whether there is a way, and what the errand says: each latch with its position at the start, each move, and what is wanted.
 fn print_errand(rt: &HostRuntime, errand: &Errand) -> anyhow::Result<()> {
     let (answer, refusal) = match judge(errand) {
-        Judgement::Way => ("way", 0),
-        Judgement::Outside => ("outside", 9),
-        Judgement::NoWay => ("noway", 10),
+        Judgement::Way => ("way", None),
+        Judgement::Outside => ("outside", Some(Refusal::Outside)),
+        Judgement::NoWay => ("noway", Some(Refusal::NoWay)),
     };
-    println!(rt; "answer={answer}")?;
-    println!(rt; "refusal={refusal}")?;
-    println!(rt; "line=0")?;
+    print_answer(rt, answer, refusal.map_or(0, |r| r.number()), 0)?;
     print_latches(rt, errand)?;
     print_moves(rt, &errand.book)?;
-    let want = said::items(rt.alloc(), &errand.book, errand.want)?;
+    let want = Items {
+        book: &errand.book,
+        asked: errand.want,
+    };
     println!(rt; "want={want}")?;
     Ok(())
 }
@@ -61,7 +64,7 @@ fn print_latches(rt: &HostRuntime, errand: &Errand) -> anyhow::Result<()> {
     let start = Register::new(latches, u32::from(errand.start));
     println!(rt; "latches={latches}")?;
     for latch in 0..start.width() {
-        let name = said::name(&errand.book, latch);
+        let name = name(&errand.book, latch);
         if let Some(at) = start.look(latch) {
             println!(rt; "latch={name}:{at}")?;
         }
@@ -73,9 +76,12 @@ fn print_latches(rt: &HostRuntime, errand: &Errand) -> anyhow::Result<()> {
 fn print_moves(rt: &HostRuntime, book: &Book) -> anyhow::Result<()> {
     println!(rt; "moves={}", book.count)?;
     for (i, m) in book.moves[0..book.count as usize].iter().enumerate() {
-        let name = said::name(book, m.latch);
-        let to = said::digit(m.to);
-        let when = said::items(rt.alloc(), book, m.when)?;
+        let name = name(book, m.latch);
+        let to = u8::from(m.to);
+        let when = Items {
+            book,
+            asked: m.when,
+        };
         println!(rt; "move={i} {name}:{to} when={when}")?;
     }
     Ok(())
@@ -83,8 +89,13 @@ fn print_moves(rt: &HostRuntime, book: &Book) -> anyhow::Result<()> {
 
 /// Prints the number of a refusal and its line.
 fn print_refusal(rt: &HostRuntime, refusal: TextRefusal) -> anyhow::Result<()> {
-    println!(rt; "answer=refused")?;
-    println!(rt; "refusal={}", refusal.fault.number())?;
-    println!(rt; "line={}", refusal.line)?;
+    print_answer(rt, "refused", refusal.fault.number(), refusal.line)
+}
+
+/// Prints the answer, the number of the refusal and its line, which are 0 where there is none.
+fn print_answer(rt: &HostRuntime, answer: &str, refusal: u8, line: u32) -> anyhow::Result<()> {
+    println!(rt; "answer={answer}")?;
+    println!(rt; "refusal={refusal}")?;
+    println!(rt; "line={line}")?;
     Ok(())
 }

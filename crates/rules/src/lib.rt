@@ -10,13 +10,6 @@ ghost use Rattle.rules.specs.Worked.{book_g, learn, Worked};
 
 pub use refusal::Refusal;
 
-/// The position in normal form of a latch that starts at `start`.
-fn normal_position(position: bool, start: bool) -> bool
-    ensures { result ≡ exchanged position start }
-{
-    if start { !position } else { position }
-}
-
 /// A position in normal form, where the positions of a latch that starts at 1 are exchanged. `normal` says that a book, a start and an errand
 /// say the same in normal form: the same lists of legal moves, and the same met wants. So what is proved of tasks holds of books as they
 /// stand: `route`, `none` and `short`.
@@ -27,21 +20,15 @@ pub fn in_normal_form(position: bool, start: bool) -> bool
     ensures none { NoWayIsNone }
     ensures short { LengthIsBounded }
 {
-    normal_position(position, start)
-}
-
-/// GATE to 1, CACHE to 1, GATE to 0, LEARN to 1.
-fn learn_moves() -> [u8; 4]
-    ensures { result ≡ 0 ∷ 2 ∷ 1 ∷ 4 ∷ [] }
-{
-    [0, 2, 1, 4]
+    position != start
 }
 
 /// The moves, by number, of the first worked errand: LEARN to 1, from all latches at 0, by the book with the latches GATE, CACHE and LEARN.
-/// The theorem has all worked errands.
+/// They throw GATE to 1, CACHE to 1, GATE to 0 and LEARN to 1. The theorem has all worked errands.
+#[tactic(auto, using(crate::proofs::Computed::worked))]
 pub fn worked_route() -> [u8; 4]
     ensures answer { result ≡ route book_g (false ∷ false ∷ false ∷ []) learn }
     ensures worked { Worked }
 {
-    learn_moves()
+    [0, 2, 1, 4]
 }

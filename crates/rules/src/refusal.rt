@@ -6,21 +6,21 @@ ghost use Rattle.rules.specs.Refusals.{refusal_number};
 #[derive(Clone, Copy, PartialEq, Eq, Debug)]
 pub enum Refusal {
     /// The panel does not fit: its width is not the book's number of latches.
-    Misfit,
+    Misfit = 7,
     /// The errand names a latch that the book lacks, or gives position 1 to one that it does not name.
-    Misnamed,
+    Misnamed = 8,
     /// The errand is not in the class 3S.
-    Outside,
+    Outside = 9,
     /// No list of legal moves does the errand.
-    NoWay,
+    NoWay = 10,
     /// The call is one for an idle sequencer, and a run is under way.
-    Running,
+    Running = 11,
     /// The call is one for a run, and none is under way.
-    Idle,
+    Idle = 12,
     /// The book has no move of that number.
-    NoSuchMove,
+    NoSuchMove = 13,
     /// The move is not legal on the panel as it stands.
-    Illegal,
+    Illegal = 14,
 }
 
 impl Refusal {
@@ -28,15 +28,6 @@ impl Refusal {
     pub fn number(self) -> u8
         ensures { result ≡ refusal_number self }
     {
-        match self {
-            Refusal::Misfit => 7,
-            Refusal::Misnamed => 8,
-            Refusal::Outside => 9,
-            Refusal::NoWay => 10,
-            Refusal::Running => 11,
-            Refusal::Idle => 12,
-            Refusal::NoSuchMove => 13,
-            Refusal::Illegal => 14,
-        }
+        self as u8
     }
 }

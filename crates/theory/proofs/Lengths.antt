@@ -1,6 +1,6 @@
 -- How long recipes and routes are: a recipe has at most 3 ^ k moves, k the number of latches placed before it that are not splitting.
 use Rattle.std.proofs.Common.{◌≡◌, ℕ, suc, ◌+◌, ◌*◌, ◌^◌, ◌≤◌, Bool, true, false, cond, not, ◌&&◌, List, [], ◌∷◌, ◌++◌, length, sym, refl, ap, subst, subst₂, inl, inr, le_trans, arith, length-append}
-use native.Mathlib.Nat.{pow-le-pow_right}
+use native.Mathlib.Nat.{one-le-pow, pow-le-pow_right}
 use Rattle.std.proofs.lemmas.Bool.{both_ways, cases_Bool}
 use Rattle.theory.specs.Searches.{In}
 use Rattle.theory.specs.Tasks.{Move, Task, asks?}
@@ -37,6 +37,9 @@ plain_count_more t v vs =
 
 pub three_pow_le : (i j : ℕ) → i ≤ j → 3 ^ i ≤ 3 ^ j
 three_pow_le i j h = pow-le-pow_right (omega arith) h
+
+-- how powers of 3 compare
+pub ruleset three_powers = (three_pow_le, one-le-pow)
 
 -- the recipes of u are short, with these latches before it
 abbrev pub Short : Task → Table → List ℕ → ℕ → Type 0

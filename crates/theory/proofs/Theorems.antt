@@ -1,6 +1,8 @@
 -- The theorems, from their parts.
-use Rattle.std.proofs.Common.{ℕ, ◌-◌, ◌^◌, ◌<◌, ◌≤◌, refl, inl, inr, arith}
+use Rattle.std.proofs.Common.{◌≡◌, true, false, ◌↔◌, ℕ, ◌-◌, ◌^◌, ◌<◌, ◌≤◌, refl, inl, inr, arith}
 use Rattle.std.proofs.lemmas.Bool.{cases_Bool}
+use Rattle.theory.specs.Tasks.{Task, WellFormed, Setting, all_zero, Run, Meets, Way}
+use Rattle.theory.specs.Meaning.{InClass}
 use Rattle.theory.specs.Bound.{longest}
 use Rattle.theory.specs.Route.{route, no_way?}
 use Rattle.theory.specs.Theorems.{RouteDoesErrand, NoWayIsRight, RouteIsShort}
@@ -18,6 +20,11 @@ no_way_is_right t well class = (
   no_way_sound t well (class_acyclic t ((class_is_meant t well).1 class)),
   λ none. elim (cases_Bool (no_way? t)) [ inl h ↦ h | inr h ↦ absurd (none (route t, route_does_errand t well class h)) ],
 )
+
+-- both, of a task in the class
+pub judged_right : (t : Task) → WellFormed t → InClass t →
+    (no_way? t ≡ false → (e : Setting) × (Run t (route t) all_zero e × Meets t.want e)) × ((no_way? t ≡ true) ↔ (Way t → ⊥))
+judged_right t well class = (route_does_errand t well class, no_way_is_right t well class)
 
 longest_fits : (n : ℕ) → n ≤ 32 → longest n < 2 ^ 64
 longest_fits n l = let less = three_pow_le (n - 1) 31 (omega arith) in omega arith

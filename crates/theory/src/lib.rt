@@ -19,45 +19,30 @@ pub enum Judgement {
     Outside,
 }
 
-/// The class is judged first.
-fn judged(in_class: bool, no_way: bool) -> Judgement
-    ensures { result ≡ judgement in_class no_way }
-{
-    if !in_class {
-        return Judgement::Outside;
-    }
-    if no_way {
-        Judgement::NoWay
-    } else {
-        Judgement::Way
-    }
-}
-
 /// The judgement on an errand, by whether it is in the class and whether a latch wanted at 1 has no kept recipe to 1.
 /// The theorems say what each judgement means: `class` what lies outside, `route` what a way is, `none` what no way is.
+#[tactic(auto, using(crate::proofs::Meant::class_is_meant, crate::proofs::Theorems::judged_right))]
 pub fn judge(in_class: bool, no_way: bool) -> Judgement
     ensures answer { result ≡ judgement in_class no_way }
     ensures class { ClassIsMeant }
     ensures route { RouteDoesErrand }
     ensures none { NoWayIsRight }
 {
-    judged(in_class, no_way)
-}
-
-/// (5 × 3^(n − 1) − 1) / 2 for n from 1 to 32.
-fn most_moves(latches: u8) -> Option<u64>
-    ensures { result ≡ longest_route latches }
-{
-    if latches < 1 || latches > MOST_LATCHES {
-        return None;
+    match (in_class, no_way) {
+        (false, _) => Judgement::Outside,
+        (true, true) => Judgement::NoWay,
+        (true, false) => Judgement::Way,
     }
-    Some((5 * 3_u64.pow(latches as u32 - 1) - 1) / 2)
 }
 
-/// The most moves that a route of this many latches can have. Absent unless there are 1 to 32 latches.
+/// The most moves that a route of n latches can have: (5 × 3^(n − 1) − 1) / 2. Absent unless there are 1 to 32 latches.
+#[tactic(auto, using(crate::proofs::Theorems::route_is_short, crate::proofs::Lengths::three_powers))]
 pub fn longest_route(latches: u8) -> Option<u64>
     ensures answer { result ≡ longest_route latches }
     ensures short { RouteIsShort }
 {
-    most_moves(latches)
+    match latches {
+        1..=MOST_LATCHES => Some((5 * 3_u64.pow(u32::from(latches) - 1) - 1) / 2),
+        _ => None,
+    }
 }

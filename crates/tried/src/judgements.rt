@@ -61,7 +61,7 @@ const ERRANDS: [Row; 9] = [
 
 #[test]
 fn judgements(rt: HostRuntime) -> Result<(), Fail> {
-    for row in ERRANDS.iter() {
+    for row in &ERRANDS {
         let errand = read_errand(row.text)?;
         assert_eq!(rt; judge(&errand), row.said, "{}", row.name);
     }

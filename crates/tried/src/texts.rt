@@ -1,40 +1,47 @@
 //! Reading texts: a table of rows, what is read, and the longest texts.
-use crate::table::{BOOKS, ERRANDS};
+use crate::table::{BOOKS, ERRANDS, Row};
 use booktext::{has_text, read_book, read_errand};
-use format::TextRefusal;
+use format::{Fault, TextRefusal};
 use std::alloc::{AllocError, Global};
+use std::process::Abort;
 use std::test::Fail;
 
-/// The number and the line of a refusal; 0 and 0 where there is none.
-fn verdict<T: Drop>(answer: Result<T, TextRefusal>) -> (u8, u32) {
-    match answer {
-        Ok(_) => (0, 0),
-        Err(refusal) => (refusal.fault.number(), refusal.line),
+/// The refusal of a text for this fault at this line.
+fn refused(fault: Fault, line: u32) -> Option<TextRefusal> {
+    Some(TextRefusal { fault, line })
+}
+
+/// Reads the text of each row, and compares what it comes to.
+fn read_rows<T: Drop, F: Fn(&[u8]) -> Result<T, TextRefusal>>(
+    rt: &impl Abort,
+    rows: &[Row],
+    read: F,
+)
+    requires { F.IsAlwaysCallable read }
+{
+    for row in rows {
+        assert_eq!(rt; read(row.text).err(), row.refusal, "{}", row.name);
     }
 }
 
 #[test]
 fn books(rt: HostRuntime) {
-    for row in BOOKS.iter() {
-        assert_eq!(rt;
-            verdict(read_book(row.text)),
-            (row.refusal, row.line),
-            "{}",
-            row.name
-        );
-    }
+    read_rows(&rt, &BOOKS, |text| read_book(text));
 }
 
 #[test]
 fn errands(rt: HostRuntime) {
-    for row in ERRANDS.iter() {
-        assert_eq!(rt;
-            verdict(read_errand(row.text)),
-            (row.refusal, row.line),
-            "{}",
-            row.name
-        );
-    }
+    read_rows(&rt, &ERRANDS, |text| read_errand(text));
+}
+
+#[test]
+fn fault_numbers(rt: HostRuntime) {
+    assert_eq!(rt; Fault::Line.number(), 1);
+    assert_eq!(rt; Fault::Value.number(), 2);
+    assert_eq!(rt; Fault::Name.number(), 3);
+    assert_eq!(rt; Fault::Latch.number(), 4);
+    assert_eq!(rt; Fault::Item.number(), 5);
+    assert_eq!(rt; Fault::Length.number(), 6);
 }
 
 #[test]
@@ -64,21 +71,14 @@ fn largest(heap: Global) -> Result<String, AllocError> {
     let mut text = String::from_str(heap, "book=1\nlatches=32\n")?;
     let mut list = String::new(heap);
     for i in 0..32u8 {
-        let name = format!(in heap; "LATCH-{:05}", i)?;
-        text.push_str("latch=")?;
-        text.push_str(name.as_str())?;
-        text.push_str("\n")?;
-        if i > 0 {
-            list.push_str(" ")?;
-        }
-        list.push_str(name.as_str())?;
-        list.push_str(":1")?;
+        let name = format!(in heap; "LATCH-{i:05}")?;
+        let space = if i > 0 { " " } else { "" };
+        writeln!(text, "latch={name}")?;
+        write!(list, "{space}{name}:1")?;
     }
-    text.push_str("moves=128\n")?;
+    writeln!(text, "moves=128")?;
     for _ in 0..128u8 {
-        text.push_str("move=LATCH-00031\nto=0\nwhen=")?;
-        text.push_str(list.as_str())?;
-        text.push_str("\n")?;
+        writeln!(text, "move=LATCH-00031\nto=0\nwhen={list}")?;
     }
     Ok(text)
 }
@@ -96,27 +96,27 @@ fn largest_book(rt: HostRuntime) -> Result<(), Fail> {
 
 #[test]
 fn long_texts(rt: HostRuntime) {
-    assert_eq!(rt; verdict(read_book(&[98; 65_537])), (6, 1), "65,537 bytes");
     assert_eq!(rt;
-        verdict(read_book(&[98; 65_536])),
-        (1, 1),
+        read_book(&[98; 65_537]).err(),
+        refused(Fault::Length, 1),
+        "65,537 bytes"
+    );
+    assert_eq!(rt;
+        read_book(&[98; 65_536]).err(),
+        refused(Fault::Line, 1),
         "65,536 bytes of one line without a line feed"
     );
     assert_eq!(rt;
-        verdict(read_errand(&[98; 65_537])),
-        (6, 1),
+        read_errand(&[98; 65_537]).err(),
+        refused(Fault::Length, 1),
         "65,537 bytes as an errand"
     );
 }
 
-/// A book whose only latch has a name of 65,000 bytes, or whose value is that long.
+/// A text with 65,000 bytes of a name or a value between these.
 fn long_line(heap: Global, before: &str, after: &str) -> Result<String, AllocError> {
-    let mut text = String::from_str(heap, before)?;
-    for _ in 0..65_000u32 {
-        text.push_str("A")?;
-    }
-    text.push_str(after)?;
-    Ok(text)
+    let long = "A".repeat(heap, 65_000)?;
+    format!(in heap; "{before}{long}{after}")
 }
 
 #[test]
@@ -124,14 +124,14 @@ fn long_lines(rt: HostRuntime) -> Result<(), Fail> {
     let heap = rt.alloc();
     let name = long_line(heap, "book=1\nlatches=1\nlatch=", "\nmoves=0\n")?;
     assert_eq!(rt;
-        verdict(read_book(name.as_bytes())),
-        (3, 3),
+        read_book(name.as_bytes()).err(),
+        refused(Fault::Name, 3),
         "a name of 65,000 bytes"
     );
     let number = long_line(heap, "book=1\nlatches=", "\n")?;
     assert_eq!(rt;
-        verdict(read_book(number.as_bytes())),
-        (2, 2),
+        read_book(number.as_bytes()).err(),
+        refused(Fault::Value, 2),
         "a number of 65,000 bytes"
     );
     let item = long_line(
@@ -140,8 +140,8 @@ fn long_lines(rt: HostRuntime) -> Result<(), Fail> {
         ":1\n",
     )?;
     assert_eq!(rt;
-        verdict(read_errand(item.as_bytes())),
-        (4, 6),
+        read_errand(item.as_bytes()).err(),
+        refused(Fault::Latch, 6),
         "an item of 65,000 bytes"
     );
     Ok(())
