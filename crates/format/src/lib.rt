@@ -5,21 +5,21 @@ ghost use Rattle.std.specs.Prelude.{◌≡◌};
 ghost use Rattle.format.specs.Exactness.{Exact, OneText, ExactErrands};
 ghost use Rattle.format.specs.Reading.{fault_number, most_bytes};
 
-/// What can be wrong with a text.
+/// What can be wrong with a text, each with its number.
 #[derive(Clone, Copy, PartialEq, Eq, Debug)]
 pub enum Fault {
     /// A line is absent, has no line feed, has another key than the one due, or follows the last line.
-    Line,
+    Line = 1,
     /// The value of `book`, `latches`, `moves`, `to` or `start` is not one allowed.
-    Value,
+    Value = 2,
     /// A latch's name is malformed or taken.
-    Name,
+    Name = 3,
     /// A move or an item names no latch.
-    Latch,
+    Latch = 4,
     /// An item does not end in `:0` or `:1` after at least one byte, or is not above the item before it.
-    Item,
+    Item = 5,
     /// The text is too long.
-    Length,
+    Length = 6,
 }
 
 impl Fault {
@@ -27,14 +27,14 @@ impl Fault {
     pub fn number(self) -> u8
         ensures { result ≡ fault_number self }
     {
-        match self {
-            Fault::Line => 1,
-            Fault::Value => 2,
-            Fault::Name => 3,
-            Fault::Latch => 4,
-            Fault::Item => 5,
-            Fault::Length => 6,
-        }
+        self as u8
+    }
+
+    /// The refusal for this fault at a line.
+    pub fn at(self, line: u32) -> TextRefusal
+        ensures { result ≡ record { fault = self; line = line } }
+    {
+        TextRefusal { fault: self, line }
     }
 }
 
@@ -45,12 +45,8 @@ pub struct TextRefusal {
     pub line: u32,
 }
 
-/// The limit, in bytes.
-fn limit() -> usize
-    ensures { result ≡ most_bytes }
-{
-    65_536
-}
+/// The most bytes that a text may have.
+const MOST_BYTES: usize = 65_536;
 
 /// The most bytes that a text may have. Reading accepts exactly the texts of books with a latch and of their errands, none of which is
 /// longer, and such a book has exactly one text.
@@ -60,5 +56,5 @@ pub fn most_bytes() -> usize
     ensures one { OneText }
     ensures errands { ExactErrands }
 {
-    limit()
+    MOST_BYTES
 }
