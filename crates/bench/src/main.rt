@@ -58,7 +58,7 @@ fn print_errand(rt: &HostRuntime, errand: &Errand) -> anyhow::Result<()> {
 /// Prints each latch with its position at the start, as a register panel that is made from it shows it.
 fn print_latches(rt: &HostRuntime, errand: &Errand) -> anyhow::Result<()> {
     let latches = errand.book.latches;
-    let start = Register::new(latches, errand.start.word());
+    let start = Register::new(latches, u32::from(errand.start));
     println!(rt; "latches={latches}")?;
     for latch in 0..start.width() {
         let name = said::name(&errand.book, latch);

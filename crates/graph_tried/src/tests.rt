@@ -5,12 +5,12 @@ use words::{LatchSet, MOST_LATCHES};
 /// A path 0, 1, 2; a circle 3, 4, 5; and arcs from 31 to 1 and to itself.
 fn table() -> Table {
     let mut rows = [LatchSet::EMPTY; MOST_LATCHES as usize];
-    rows[0] = LatchSet::from_word(1 << 1);
-    rows[1] = LatchSet::from_word(1 << 2);
-    rows[3] = LatchSet::from_word(1 << 4);
-    rows[4] = LatchSet::from_word(1 << 5);
-    rows[5] = LatchSet::from_word(1 << 3);
-    rows[31] = LatchSet::from_word(1 << 31 | 1 << 1);
+    rows[0] = LatchSet::from(1 << 1);
+    rows[1] = LatchSet::from(1 << 2);
+    rows[3] = LatchSet::from(1 << 4);
+    rows[4] = LatchSet::from(1 << 5);
+    rows[5] = LatchSet::from(1 << 3);
+    rows[31] = LatchSet::from(1 << 31 | 1 << 1);
     Table { rows }
 }
 
@@ -26,8 +26,8 @@ fn from_sets(rt: HostRuntime) {
         ("a node alone", 1 << 30, 1 << 30),
         ("the last node", 1 << 31, 1 << 31 | 0b000110),
     ] {
-        let answer = reached(&graph, LatchSet::from_word(from));
-        assert_eq!(rt; answer, LatchSet::from_word(all), "{}", name);
+        let answer = reached(&graph, LatchSet::from(from));
+        assert_eq!(rt; answer, LatchSet::from(all), "{}", name);
     }
 }
 
@@ -41,11 +41,6 @@ fn from_one_node(rt: HostRuntime) {
         ("the last node", 31, 1 << 31 | 0b000110),
         ("beyond the last node", 32, 0),
     ] {
-        assert_eq!(rt;
-            reached_from(&graph, node),
-            LatchSet::from_word(all),
-            "{}",
-            name
-        );
+        assert_eq!(rt; reached_from(&graph, node), LatchSet::from(all), "{}", name);
     }
 }

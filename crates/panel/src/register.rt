@@ -25,7 +25,7 @@ impl Register {
     {
         Register {
             width: Width::clamped(width),
-            raised: LatchSet::from_word(positions),
+            raised: LatchSet::from(positions),
         }
     }
 }

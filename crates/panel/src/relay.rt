@@ -126,7 +126,7 @@ fn all_resting(positions: u32) -> [Coils; WIDEST as usize]
     ensures positions { (n : ℕ) → n ≤ widest → row n (λ i. up? (coils_at result i).last) ≡ row n (set? positions) }
     ensures counts { (n : ℕ) → n ≤ widest → row n (λ i. (coils_at result i).pulses) ≡ replicate n 0 }
 {
-    let raised = LatchSet::from_word(positions);
+    let raised = LatchSet::from(positions);
     let mut coils = [Coils::resting(false); WIDEST as usize];
     for latch in 0..WIDEST {
         coils[latch as usize] = Coils::resting(raised.contains(latch));

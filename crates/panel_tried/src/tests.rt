@@ -42,13 +42,13 @@ fn tried<P: Panel>(rt: &impl Abort, kind: &str, panel: &mut P, throw: Throw) {
     assert_eq!(rt; panel.throw(latch, to), shows.is_some(), "{kind}: {name}");
     assert_eq!(rt; panel.look(latch), shows, "{kind}: {name}");
     assert_eq!(rt; panel.width(), WIDTH, "{kind}: {name}");
-    assert_eq!(rt; raised(panel), LatchSet::from_word(after), "{kind}: {name}");
+    assert_eq!(rt; raised(panel), LatchSet::from(after), "{kind}: {name}");
 }
 
 #[test]
 fn throws(rt: HostRuntime) {
-    let mask = LatchSet::from_word(MASK);
-    let second = LatchSet::from_word(SECOND_MASK);
+    let mask = LatchSet::from(MASK);
+    let second = LatchSet::from(SECOND_MASK);
     for throw in THROWS {
         tried(&rt, "register", &mut Register::new(WIDTH, START), throw);
         tried(&rt, "relay", &mut Relay::new(WIDTH, START), throw);
@@ -81,10 +81,10 @@ fn widths_are_clamped(rt: HostRuntime) {
     ] {
         let register = Register::new(given, u32::MAX);
         assert_eq!(rt; register.width(), width, "{given}");
-        assert_eq!(rt; raised(&register), LatchSet::from_word(shown), "{given}");
+        assert_eq!(rt; raised(&register), LatchSet::from(shown), "{given}");
         let relay = Relay::new(given, u32::MAX);
         assert_eq!(rt; relay.width(), width, "{given}");
-        assert_eq!(rt; raised(&relay), LatchSet::from_word(shown), "{given}");
+        assert_eq!(rt; raised(&relay), LatchSet::from(shown), "{given}");
     }
 }
 
@@ -106,9 +106,9 @@ fn every_throw_is_a_pulse(rt: HostRuntime) {
 
 #[test]
 fn a_flip_gives_the_panel_below_back(rt: HostRuntime) {
-    let mut flip = Flip::new(Register::new(WIDTH, BELOW), LatchSet::from_word(MASK));
+    let mut flip = Flip::new(Register::new(WIDTH, BELOW), LatchSet::from(MASK));
     let _ = flip.throw(0, true);
     let _ = flip.throw(3, true);
     let below = flip.into_inner();
-    assert_eq!(rt; raised(&below), LatchSet::from_word(0b11000));
+    assert_eq!(rt; raised(&below), LatchSet::from(0b11000));
 }

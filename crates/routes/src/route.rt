@@ -88,7 +88,7 @@ impl Recipes {
             }; MOST_ENTRIES],
             count: 0,
         };
-        entries.extend(self, 0, LatchSet::from_word(u32::MAX));
+        entries.extend(self, 0, LatchSet::from(u32::MAX));
         entries
     }
 

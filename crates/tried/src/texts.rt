@@ -50,11 +50,11 @@ fn contents(rt: HostRuntime) -> Result<(), Fail> {
     assert!(rt; book.names[2].as_bytes().is_empty());
     assert_eq!(rt; book.moves[0].latch, 1);
     assert!(rt; book.moves[0].to);
-    assert_eq!(rt; book.moves[0].when.named.word(), 3);
-    assert_eq!(rt; book.moves[0].when.ones.word(), 2);
-    assert_eq!(rt; errand.start.word(), 2);
-    assert_eq!(rt; errand.want.named.word(), 1);
-    assert_eq!(rt; errand.want.ones.word(), 1);
+    assert_eq!(rt; u32::from(book.moves[0].when.named), 3);
+    assert_eq!(rt; u32::from(book.moves[0].when.ones), 2);
+    assert_eq!(rt; u32::from(errand.start), 2);
+    assert_eq!(rt; u32::from(errand.want.named), 1);
+    assert_eq!(rt; u32::from(errand.want.ones), 1);
     assert!(rt; has_text(&book));
     Ok(())
 }
@@ -90,7 +90,7 @@ fn largest_book(rt: HostRuntime) -> Result<(), Fail> {
     let book = read_book(text.as_bytes())?;
     assert_eq!(rt; book.latches, 32);
     assert_eq!(rt; book.count, 128);
-    assert_eq!(rt; book.moves[127].when.ones.word(), u32::MAX);
+    assert_eq!(rt; u32::from(book.moves[127].when.ones), u32::MAX);
     Ok(())
 }
 

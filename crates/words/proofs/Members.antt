@@ -2,7 +2,7 @@
 use Rattle.std.proofs.Common.{◌≡◌, ℕ, ◌+◌, ◌-◌, ◌*◌, ◌/◌, ◌%◌, ◌^◌, ◌<◌, ◌≤◌, min, max, Bool, true, false, not, ◌&&◌, ◌||◌, eqb, ltb, ◌⊎◌, Decides, sym, refl, ap, ◌∙◌, inl, inr, ⊎_elim, div-lt_iff_lt-mul, arith, pow_pos, shr-shr}
 use base.Stored.{Coded, coded_ℕ, coded_via}
 use lib.Bits.{bit_and, bit_or}
-use Rattle.std.proofs.lemmas.Bool.{cases_eq, eq-eqb, ne_eqb, eqb-true, eqb-false, lt-ltb, le-ltb, or_cases, or_right, and_parts, and_from, and_left, and_right, not_from_true, not_from_false}
+use Rattle.std.proofs.lemmas.Bool.{cases_eq, eq-eqb, ne_eqb, eqb-true, eqb-false, lt-ltb, or_cases, or_right, and_parts, and_from, and_left, and_right, not_from_true, not_from_false}
 use Rattle.std.proofs.lemmas.Bool.Decides.{nat_tests}
 use Rattle.words.specs.declared.LatchSet.{LatchSet}
 use Rattle.words.specs.Bit.{bit, set?, AllClear, AllClearFrom}
@@ -56,10 +56,6 @@ members_with w i j l =
   where
     or_none : (x y : Bool) → y ≡ false → x ≡ (x || y)
     or_none x y e = grind (arith, e)
-
--- a latch from 32 on is passed over
-pub members_with_none : (w i j : ℕ) → 32 ≤ i → set? w j ≡ (set? w j || (eqb j i && ltb i 32))
-members_with_none w i j l = grind (arith, le-ltb i 32 l)
 
 -- a bit cleared by &
 pub members_without : (w i j : ℕ) → w < 2 ^ 32 → i < 32 → eqb (bit (bit_and w (2 ^ 32 - 1 - 2 ^ i)) j) 1 ≡ (set? w j && not (eqb j i))

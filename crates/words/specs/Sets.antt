@@ -4,12 +4,13 @@
 --   has s i           latch i is in s
 --   has_with s i      the members of s and, if there can be such a latch, latch i
 --   has_without s i   the members of s but latch i
+--   has_put s i b     the one if b, else the other
 --   has_either s t    the members of s and of t
 --   has_minus s t     the members of s but those of t
 --   Empty s           no latch is in s
 --   Below n s         each latch of s is one of the first n
 --   Lowest s o        o is the lowest latch of s, if there is one
-use Rattle.std.specs.Prelude.{◌≡◌, ℕ, ◌<◌, Bool, true, false, not, ◌&&◌, ◌||◌, Option, MatchOption, ◌==◌, nat_lt}
+use Rattle.std.specs.Prelude.{◌≡◌, ℕ, ◌<◌, Bool, true, false, cond, not, ◌&&◌, ◌||◌, Option, MatchOption, ◌==◌, nat_lt}
 use Rattle.words.specs.declared.LatchSet.{LatchSet}
 use Rattle.words.specs.Bit.{set?}
 
@@ -32,6 +33,10 @@ has_with s i j = has s j || (j == i && nat_lt i most_latches)
 -- latch j is in the set without latch i
 abbrev pub has_without : LatchSet → ℕ → ℕ → Bool
 has_without s i j = has s j && not (j == i)
+
+-- latch j is in the set once latch i is put in it if b, else taken out
+abbrev pub has_put : LatchSet → ℕ → Bool → ℕ → Bool
+has_put s i b j = cond b (has_with s i j) (has_without s i j)
 
 -- latch j is in one of the sets
 abbrev pub has_either : LatchSet → LatchSet → ℕ → Bool

@@ -1,10 +1,8 @@
 //! Sets of latches 0 to 31, each set one 32-bit word.
 #![tactic(auto)]
 
-mod bits;
-
-ghost use Rattle.std.specs.Prelude.{◌≡◌, ℕ, Decides};
-ghost use Rattle.words.specs.Sets.{has, has_with, has_without, has_either, has_minus, Empty, Below, Lowest};
+ghost use Rattle.std.specs.Prelude.{◌≡◌, ℕ, ◌<◌, ◌≤◌, false, Decides};
+ghost use Rattle.words.specs.Sets.{most_latches, has, has_with, has_without, has_put, has_either, has_minus, Empty, Below, Lowest};
 
 /// How many latches there can be.
 pub const MOST_LATCHES: u8 = 32;
@@ -15,38 +13,57 @@ pub struct LatchSet {
     word: u32,
 }
 
+impl From<u32> for LatchSet {
+    ghost from_gives = { λ word set. set.word ≡ word };
+
+    /// The set that a word stands for.
+    fn from(word: u32) -> LatchSet {
+        LatchSet { word }
+    }
+}
+
+impl From<LatchSet> for u32 {
+    ghost from_gives = { λ set word. word ≡ set.word };
+
+    /// The word that stands for the set.
+    fn from(set: LatchSet) -> u32 {
+        set.word
+    }
+}
+
 impl LatchSet {
     /// The set with no latch.
     pub const EMPTY: LatchSet = LatchSet { word: 0 };
 
-    /// The set that a word stands for.
-    pub fn from_word(word: u32) -> LatchSet
-        ensures { result.word ≡ word }
+    /// The latches below `n` at which the test is true.
+    pub fn from_fn<F: Fn(u8) -> bool>(n: u8, test: F) -> LatchSet
+        requires { (j : ℕ) → j < n → F.pre test j }
+        ensures tested { (j : ℕ) → j < n → j < most_latches → F.post test j (has result j) }
+        ensures none { (j : ℕ) → n ≤ j → has result j ≡ false }
     {
-        LatchSet { word }
-    }
-
-    /// The word that stands for the set.
-    pub fn word(self) -> u32
-        ensures { result ≡ self.word }
-    {
-        let LatchSet { word } = self;
-        word
+        let mut set = LatchSet::EMPTY;
+        for latch in 0..n.min(MOST_LATCHES) {
+            set = set.put(latch, test(latch));
+        }
+        set
     }
 
     /// Whether the latch is in the set.
     pub fn contains(self, latch: u8) -> bool
         ensures { result ≡ has self latch }
     {
-        bits::test(self.word, latch)
+        latch < MOST_LATCHES && self.word >> latch & 1 == 1
     }
 
     /// The set with one more latch. A latch from 32 on is passed over.
     pub fn with(self, latch: u8) -> LatchSet
         ensures { (j : ℕ) → has result j ≡ has_with self latch j }
     {
+        if latch >= MOST_LATCHES {
+            return self;
+        }
         LatchSet {
-            word: bits::with(self.word, latch),
+            word: self.word | 1 << latch,
         }
     }
 
@@ -54,8 +71,22 @@ impl LatchSet {
     pub fn without(self, latch: u8) -> LatchSet
         ensures { (j : ℕ) → has result j ≡ has_without self latch j }
     {
+        if latch >= MOST_LATCHES {
+            return self;
+        }
         LatchSet {
-            word: bits::without(self.word, latch),
+            word: self.word & !(1 << latch),
+        }
+    }
+
+    /// The set with the latch if `to`, else without it.
+    pub fn put(self, latch: u8, to: bool) -> LatchSet
+        ensures { (j : ℕ) → has result j ≡ has_put self latch to j }
+    {
+        if to {
+            self.with(latch)
+        } else {
+            self.without(latch)
         }
     }
 
@@ -64,7 +95,7 @@ impl LatchSet {
         ensures { (j : ℕ) → has result j ≡ has_either self other j }
     {
         LatchSet {
-            word: bits::either(self.word, other.word),
+            word: self.word | other.word,
         }
     }
 
@@ -73,7 +104,7 @@ impl LatchSet {
         ensures { (j : ℕ) → has result j ≡ has_minus self other j }
     {
         LatchSet {
-            word: bits::minus(self.word, other.word),
+            word: self.word & !other.word,
         }
     }
 
@@ -81,20 +112,23 @@ impl LatchSet {
     pub fn is_empty(self) -> bool
         ensures { Decides result (Empty self) }
     {
-        bits::all_clear(self.word)
+        self.word == 0
     }
 
     /// Whether each latch of the set is one of the first `n`.
     pub fn is_below(self, n: u8) -> bool
         ensures { Decides result (Below n self) }
     {
-        bits::clear_from(self.word, n)
+        n >= MOST_LATCHES || self.word >> n == 0
     }
 
     /// The lowest latch of the set.
     pub fn first(self) -> Option<u8>
         ensures { Lowest self result }
     {
-        bits::lowest(self.word)
+        if self.word == 0 {
+            return None;
+        }
+        Some(self.word.trailing_zeros() as u8)
     }
 }

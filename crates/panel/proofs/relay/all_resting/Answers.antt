@@ -12,7 +12,7 @@ loop-latch-preserved c =
       below_more _ _ (λ k h. get_or-set_other l.coils l.latch k c.resting.result (resting false) (omega arith) ∙ l.invariant.1 k h)
           (
           get_or-set_same l.coils l.latch c.resting.result (resting false) (omega arith)
-          ∙ c.resting.ensures ∙ ap resting (c.contains.ensures ∙ ap (λ (w : ℕ). set? w l.latch) c.from_word-raised.ensures)
+          ∙ c.resting.ensures ∙ ap resting (c.contains.ensures ∙ ap (λ (w : ℕ). set? w l.latch) c.from-raised.ensures)
           ),
     )
 

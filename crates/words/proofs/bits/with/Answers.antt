@@ -1,9 +1,0 @@
-use Rattle.std.proofs.lemmas.Nat.{one_shl}
-use Rattle.words.proofs.Members.{members_with, members_with_none}
-use Rattle.words.proofs.bits.with.Goals as goal
-
-pub returns-then-i-ge32 : goal.returns-then-i-ge32
-returns-then-i-ge32 c = λ j. members_with_none c.args.word c.args.i j c.if-i-ge32.true
-
-pub returns : goal.returns
-returns c = λ j. rw (one_shl c.args.i 32 c.if-i-ge32.false) (members_with c.args.word c.args.i j c.if-i-ge32.false)
