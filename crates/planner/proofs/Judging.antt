@@ -1,23 +1,29 @@
--- No way, as the sets of the table tell it, and what each judgement says.
-use Rattle.std.proofs.Common.{◌≡◌, ℕ, ◌<◌, Bool, true, false, not, ◌&&◌, ◌↔◌, Decides, sym, refl, ap, ◌∙◌, inl, inr}
+-- No way, as the sets of the table tell it, and what each answer of the planner says.
+use Rattle.std.proofs.Common.{◌≡◌, ℕ, ◌<◌, Bool, true, false, not, ◌&&◌, ◌↔◌, List, length, Ok, Err, Decides, Result, sym, refl, ap, ◌∙◌, subst, inl, inr}
+use mathlib.Core.Option.{none, some}
 use Rattle.std.proofs.lemmas.Bool.{cases_Bool, both_ways, not_from_true, not_from_false}
 use Rattle.words.specs.declared.LatchSet.{LatchSet}
 use Rattle.words.specs.Sets.{has, Empty}
-use Rattle.book.specs.declared.errand.Errand.{Errand}
 use Rattle.theory.specs.Class.{in_class?}
-use Rattle.theory.specs.Judgement.{judgement}
 use Rattle.theory.specs.Meaning.{InClass}
 use Rattle.theory.specs.Recipes.{kept?}
 use Rattle.theory.specs.Route.{kept_table, no_way?}
 use Rattle.theory.specs.Tasks.{asks?}
 use Rattle.theory.proofs.Meant.{class_is_meant}
-use Rattle.theory.proofs.Searches.{some_below_true, some_below_from}
+use Rattle.theory.proofs.Searches.{some_below_true, some_below_from, none≢some}
+use Rattle.rules.specs.declared.refusal.Refusal.{Refusal}
+use Rattle.rules.specs.declared.refusal.Refusal.TheVariants.{Misnamed, Outside, NoWay}
+use Rattle.rules.specs.Naming.{errand_of, Names, names?}
+use Rattle.rules.specs.NormalForm.{route}
+use Rattle.rules.specs.Rules.{Rules, Setting, Leads, RulesWithin}
+use Rattle.rules.proofs.Naming.{names_meant, errand_within}
 use Rattle.rules.proofs.Theorems.{normal_form_is_right, route_leads, no_way_is_none}
-use Rattle.planner.specs.declared.task.NormalTask.{NormalTask}
-use Rattle.planner.specs.Asks.{asks_of, rules_of}
-use Rattle.planner.specs.Errands.{errand_task, start_of, Says}
-use Rattle.planner.specs.Tasks.{task_of}
-use Rattle.planner.proofs.Bridge.{setting_length, book_within, want_within}
+use Rattle.tasks.specs.declared.task.NormalTask.{NormalTask}
+use Rattle.tasks.specs.Asks.{asks_of}
+use Rattle.tasks.specs.Tasks.{task_of}
+use Rattle.planner.specs.declared.route.table.Route.{Route}
+use Rattle.planner.specs.Plans.{errand_task, refusal, Planned, LeadsThere, Says}
+use Rattle.planner.specs.Routes.{moves_of}
 use Rattle.planner.proofs.Serving.{asked_one}
 
 -- `missing` has the latches wanted at 1 that are not in `kept`, those with a kept recipe to 1
@@ -58,29 +64,74 @@ module _ (t : NormalTask) (kept missing : LatchSet) (members : (u : ℕ) → has
             | inr e ↦ e
           ]
 
--- each judgement says what is so
-module _ (e : Errand) where
-  -- what holds of every book, start and errand that go together
-  meant : (in_class? (errand_task e) ≡ true) ↔ InClass (errand_task e)
-  meant =
-      class_is_meant (errand_task e)
-      (normal_form_is_right (rules_of e.book) (book_within e.book) (start_of e) (setting_length e.book.latches e.start) (asks_of e.want)
-      (want_within e.book e.want e.wants)).well_formed
+-- each answer says what is so, of every book that exists and every start that fits it
+module _ (r : Rules) (well : RulesWithin r) (s : Setting) (fits : length s ≡ r.latches) (named wanted : LatchSet) where
+  meant : Names r named wanted → (in_class? (errand_task r s named wanted) ≡ true) ↔ InClass (errand_task r s named wanted)
+  meant n =
+      class_is_meant (errand_task r s named wanted)
+      (normal_form_is_right r well s fits (errand_of named wanted) (errand_within r named wanted n)).well_formed
 
-  pub says_so : Says (judgement (in_class? (errand_task e)) (no_way? (errand_task e))) e
-  says_so = go (in_class? (errand_task e)) (no_way? (errand_task e)) refl refl
+  -- the refusal of the tests is one of three
+  refused_by : (a b c : Bool) (e : Refusal) → names? r named wanted ≡ a → in_class? (errand_task r s named wanted) ≡ b → no_way? (errand_task r s named wanted) ≡ c →
+      refusal a b c ≡ some e → Says r s named wanted (Err e)
+  refused_by false b c e p q o h =
+      subst (λ (x : Refusal). Says r s named wanted (Err x)) (same h) (λ n. both_ways (names? r named wanted) p ((names_meant r named wanted).1 n))
     where
-      go : (a b : Bool) → in_class? (errand_task e) ≡ a → no_way? (errand_task e) ≡ b → Says (judgement a b) e
-      go false b p q = λ i. both_ways (in_class? (errand_task e)) p (meant.1 i)
-      go true true p q =
-          let inside = meant.0 p in (
-            inside,
-            (no_way_is_none (rules_of e.book) (book_within e.book) (start_of e) (setting_length e.book.latches e.start) (asks_of e.want)
-                (want_within e.book e.want e.wants) inside).0 q,
-          )
-      go true false p q =
-          let inside = meant.0 p in (
-            inside,
-            route_leads (rules_of e.book) (book_within e.book) (start_of e) (setting_length e.book.latches e.start) (asks_of e.want)
-                (want_within e.book e.want e.wants) inside q,
-          )
+      same : {x y : Refusal} → some x ≡ some y → x ≡ y
+      same k = cc
+  refused_by true false c e p q o h =
+      let n = (names_meant r named wanted).0 p in
+      subst (λ (x : Refusal). Says r s named wanted (Err x)) (same h) (n, λ i. both_ways (in_class? (errand_task r s named wanted)) q ((meant n).1 i))
+    where
+      same : {x y : Refusal} → some x ≡ some y → x ≡ y
+      same k = cc
+  refused_by true true true e p q o h =
+      let n = (names_meant r named wanted).0 p in
+      let inside = (meant n).0 q in
+      subst (λ (x : Refusal). Says r s named wanted (Err x)) (same h)
+      (n, (inside, (no_way_is_none r well s fits (errand_of named wanted) (errand_within r named wanted n) inside).0 o))
+    where
+      same : {x y : Refusal} → some x ≡ some y → x ≡ y
+      same k = cc
+  refused_by true true false e p q o h = absurd (none≢some h)
+
+  leads_there : (a b c : Bool) (p : Route) → names? r named wanted ≡ a → in_class? (errand_task r s named wanted) ≡ b → no_way? (errand_task r s named wanted) ≡ c →
+      refusal a b c ≡ none → moves_of p ≡ route r s (errand_of named wanted) → LeadsThere r s named wanted p
+  leads_there false b c p x y z h m = absurd (none≢some (sym h))
+  leads_there true false c p x y z h m = absurd (none≢some (sym h))
+  leads_there true true true p x y z h m = absurd (none≢some (sym h))
+  leads_there true true false p x y z h m =
+      let n = (names_meant r named wanted).0 x in
+      let inside = (meant n).0 y in
+      let way = route_leads r well s fits (errand_of named wanted) (errand_within r named wanted n) inside z in
+      record {
+        names = n;
+        in_class = inside;
+        end = way.0;
+        leads = subst (λ (ks : List ℕ). Leads r ks s way.0) (sym m) way.1.0;
+        met = way.1.1;
+      }
+
+  pub says_so : (o : Result Route Refusal) → Planned r s named wanted o → Says r s named wanted o
+  says_so (Ok p) h = leads_there _ _ _ p refl refl refl h.0 h.1
+  says_so (Err e) h = refused_by _ _ _ e refl refl refl h
+
+  -- the refusal of the tests, test by test
+  named_well : Names r named wanted → names? r named wanted ≡ true
+  named_well = (names_meant r named wanted).1
+
+  pub first_misnamed : (Names r named wanted → ⊥) → (b c : Bool) → refusal (names? r named wanted) b c ≡ some Misnamed
+  first_misnamed n b c =
+      elim (cases_Bool (names? r named wanted)) [
+        | inl h ↦ absurd (n ((names_meant r named wanted).0 h))
+        | inr h ↦ ap (λ (a : Bool). refusal a b c) h
+      ]
+
+  pub then_outside : Names r named wanted → (b c : Bool) → b ≡ false → refusal (names? r named wanted) b c ≡ some Outside
+  then_outside n b c e = ap (λ (a : Bool). refusal a b c) (named_well n) ∙ ap (λ (x : Bool). refusal true x c) e
+
+  pub then_no_way : Names r named wanted → (b c : Bool) → b ≡ true → c ≡ true → refusal (names? r named wanted) b c ≡ some NoWay
+  then_no_way n b c e h = ap (λ (a : Bool). refusal a b c) (named_well n) ∙ ap (λ (x : Bool). refusal true x c) e ∙ ap (refusal true true) h
+
+  pub then_route : Names r named wanted → (b c : Bool) → b ≡ true → c ≡ false → refusal (names? r named wanted) b c ≡ none
+  then_route n b c e h = ap (λ (a : Bool). refusal a b c) (named_well n) ∙ ap (λ (x : Bool). refusal true x c) e ∙ ap (refusal true true) h

@@ -8,6 +8,11 @@ use Rattle.theory.specs.Tasks.{Task}
 use Rattle.theory.specs.Order.{next?, placing, latest_first, order}
 use Rattle.theory.proofs.Searches.{lowest_some, in_has, below_cases}
 use Rattle.theory.proofs.Ordered.{Behind}
+use Rattle.words.specs.Sets.{most_latches}
+use Rattle.tasks.specs.declared.task.NormalTask.{NormalTask}
+use Rattle.tasks.specs.Tasks.{task_of}
+use Rattle.planner.specs.declared.order.list.Order.{Order}
+use Rattle.planner.specs.Orders.{order_of}
 use Rattle.planner.specs.RecipesKept.{before}
 use Rattle.planner.proofs.RecipeLengths.{before_more}
 
@@ -58,3 +63,9 @@ in_before latches zero i l h = absurd (omega arith)
 in_before latches (suc k) i l h =
     subst (λ (us : List ℕ). In us (get_or latches i 0)) (sym (before_next latches k (omega arith)))
     (elim (below_cases i k l) [ inl a ↦ inr (in_before latches k i a (omega arith)) | inr e ↦ inl (ap (λ (j : ℕ). get_or latches j 0) (sym e)) ])
+
+-- a latch of the order is one that there can be
+pub latch_below : (t : NormalTask) (o : Order) → order_of o ≡ order (task_of t) → (k : ℕ) → k < o.count → get_or o.latches k 0 < most_latches
+latch_below t o e k l =
+    let below = (fresh_at (task_of t) o.latches o.count e (omega (arith, o.room, o.places)) k l).0 in
+    omega (arith, t.narrow)

@@ -7,12 +7,12 @@ use Rattle.theory.specs.Searches.{some_of}
 use Rattle.theory.specs.Tasks.{Move}
 use Rattle.theory.specs.Recipes.{Table, opened, recipe_with, serves?, recipe_parts, chosen, recipe}
 use Rattle.theory.specs.Recipes.{Recipe as RecipeMeant}
-use Rattle.planner.specs.declared.task.NormalMove.{NormalMove}
-use Rattle.planner.specs.declared.task.NormalTask.{NormalTask}
-use Rattle.planner.specs.Places.{move_at}
-use Rattle.planner.specs.Tasks.{move_of, moves_of, task_of}
+use Rattle.tasks.specs.declared.task.NormalMove.{NormalMove}
+use Rattle.tasks.specs.declared.task.NormalTask.{NormalTask}
+use Rattle.tasks.specs.Places.{move_at}
+use Rattle.tasks.specs.Tasks.{move_of, moves_of, task_of}
 use Rattle.planner.specs.RecipesKept.{Helps, Made}
-use Rattle.planner.proofs.Found.{Reads, Stops, some_to, place_before, place_read, place_end}
+use Rattle.tasks.proofs.Found.{Reads, Stops, some_to, place_before, place_read, place_end}
 
 module _ (test : Move → Bool) (make : Move → RecipeMeant) where
   -- where no move passes none is taken

@@ -10,9 +10,9 @@ use Rattle.theory.specs.Recipes.{Kept, none_kept, one_kept, both_kept, Table, re
 use Rattle.theory.specs.Recipes.{Recipe as RecipeMeant}
 use Rattle.planner.specs.declared.recipes.recipe.Recipe.{Recipe}
 use Rattle.planner.specs.declared.recipes.table.RecipeTable.{RecipeTable}
-use Rattle.planner.specs.declared.task.NormalTask.{NormalTask}
-use Rattle.planner.specs.Asks.{asks_of}
-use Rattle.planner.specs.Tasks.{task_of}
+use Rattle.tasks.specs.declared.task.NormalTask.{NormalTask}
+use Rattle.tasks.specs.Asks.{asks_of}
+use Rattle.tasks.specs.Tasks.{task_of}
 use Rattle.planner.specs.RecipesKept.{no_recipe, recipe_at, recipe_by, StandsFor, Made, Chosen, Held, Elsewhere, kept_last}
 
 -- the recipe to 1 alone is kept of a latch that is not wanted at 0

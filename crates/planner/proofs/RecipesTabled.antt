@@ -13,8 +13,8 @@ use Rattle.theory.proofs.Searches.{below_cases}
 use Rattle.theory.proofs.Tables.{table_head, table_tail}
 use Rattle.planner.specs.declared.recipes.recipe.Recipe.{Recipe}
 use Rattle.planner.specs.declared.recipes.table.RecipeTable.{RecipeTable}
-use Rattle.planner.specs.declared.task.NormalTask.{NormalTask}
-use Rattle.planner.specs.Tasks.{task_of}
+use Rattle.tasks.specs.declared.task.NormalTask.{NormalTask}
+use Rattle.tasks.specs.Tasks.{task_of}
 use Rattle.planner.specs.RecipesKept.{before, no_recipe, kept_to, recipe_at, StandsFor, Held, Elsewhere, Tabled, kept_last}
 use Rattle.planner.proofs.RecipeLengths.{before_more}
 use Rattle.planner.proofs.OrderFresh.{in_before, order_before}

@@ -10,9 +10,9 @@ use Rattle.theory.specs.Tasks.{Task, asks?}
 use Rattle.theory.specs.Recipes.{Table, kept?, serves?}
 use Rattle.theory.proofs.Searches.{all_below_true, all_below_from}
 use Rattle.theory.proofs.Sides.{bool_ext}
-use Rattle.planner.specs.declared.task.NormalMove.{NormalMove}
-use Rattle.planner.specs.Asks.{ask_from, asks_of}
-use Rattle.planner.specs.Tasks.{move_of}
+use Rattle.tasks.specs.declared.task.NormalMove.{NormalMove}
+use Rattle.tasks.specs.Asks.{ask_from, asks_of}
+use Rattle.tasks.specs.Tasks.{move_of}
 use Rattle.planner.specs.RecipesKept.{KeepsOne}
 
 -- a latch is asked at 1 when it is one of the ones

@@ -9,7 +9,7 @@ use Rattle.theory.specs.Meaning.{InClass}
 use Rattle.theory.specs.Tasks.{Task}
 use Rattle.rules.specs.NormalForm.{task, route}
 use Rattle.rules.specs.Rules.{Setting, Leads, MetBy, Way as AWay}
-use Rattle.planner.specs.Asks.{asks_of, rules_of, setting_of}
+use Rattle.tasks.specs.Asks.{asks_of, rules_of, setting_of}
 
 -- the errand in normal form
 abbrev pub errand_task : Errand → Task

@@ -1,6 +1,10 @@
-pub mod Asks
 pub mod Errands
+pub mod Laid
+pub mod Limits
+pub mod Listed
+pub mod Lookup
+pub mod Made
 pub mod Orders
-pub mod Places
+pub mod Plans
 pub mod RecipesKept
-pub mod Tasks
+pub mod Routes

@@ -26,9 +26,9 @@ use Rattle.theory.specs.Recipes.{Kept, Table, kept?, recipe_to, moves_to, helper
 use Rattle.theory.specs.Recipes.{Recipe as RecipeMeant}
 use Rattle.planner.specs.declared.recipes.recipe.Recipe.{Recipe}
 use Rattle.planner.specs.declared.recipes.table.RecipeTable.{RecipeTable}
-use Rattle.planner.specs.declared.task.NormalTask.{NormalTask}
-use Rattle.planner.specs.Places.{move_at}
-use Rattle.planner.specs.Tasks.{move_of, task_of}
+use Rattle.tasks.specs.declared.task.NormalTask.{NormalTask}
+use Rattle.tasks.specs.Places.{move_at}
+use Rattle.tasks.specs.Tasks.{move_of, task_of}
 
 -- the splitting latches of a task
 abbrev pub Splits : Task → LatchSet → Type 0

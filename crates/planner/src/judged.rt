@@ -5,16 +5,17 @@ ghost use Rattle.theory.specs.Judgement.{judgement};
 ghost use Rattle.theory.specs.Route.{no_way?};
 ghost use Rattle.planner.specs.Errands.{errand_task, Says};
 
-use crate::normal::normal_task;
+use crate::recipes::Recipes;
 use book::Errand;
+use tasks::NormalTask;
 use theory::Judgement;
 
 /// The judgement on the task of the errand.
 fn judged(errand: &Errand) -> Judgement
     ensures { result ≡ judgement (in_class? (errand_task errand.now)) (no_way? (errand_task errand.now)) }
 {
-    let task = normal_task(&errand.book, errand.start, errand.want);
-    theory::judge(task.is_in_class(), task.is_no_way())
+    let task = NormalTask::of(errand);
+    theory::judge(task.is_in_class(), Recipes::of(task).is_no_way())
 }
 
 /// What is said of an errand. `Outside`: it is not in the class 3S. `NoWay`: it is, and no list of legal moves leads from its start to where it

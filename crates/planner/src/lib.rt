@@ -1,14 +1,13 @@
-//! The planner: from an errand to what is said of it.
+//! The planner: what is said of an errand, and from a book, a start and an errand to a route, its length, and the move at each of its places.
 #![tactic(auto)]
 
-mod class;
-mod edges;
 mod judged;
-mod kinds;
-mod normal;
+mod lookup;
 mod order;
+mod planning;
 mod recipes;
-mod task;
-mod way;
+mod route;
 
 pub use judged::judge;
+pub use planning::plan;
+pub use route::Route;

@@ -3,55 +3,53 @@ mod list;
 
 ghost use Rattle.std.specs.Prelude.{◌≡◌, ℕ, List};
 ghost use Rattle.theory.specs.Order.{order};
-ghost use Rattle.planner.specs.Tasks.{task_of};
+ghost use Rattle.tasks.specs.Tasks.{task_of};
 ghost use Rattle.planner.specs.Orders.{Members, PlacedNext, order_of};
 
-use crate::task::NormalTask;
 use book::MOST_LATCHES;
 pub(crate) use list::Order;
+use tasks::NormalTask;
 use words::LatchSet;
 
-impl NormalTask {
-    /// The lowest latch that is not placed while all latches with an edge to it are.
-    fn next(&self, placed: LatchSet) -> Option<u8>
-        ensures { (vs : List ℕ) → Members placed vs → PlacedNext (task_of self.now) vs result }
-    {
-        let width = self.width;
-        let latch = 'search: loop {
-            'next: for v in 0..width {
-                if placed.contains(v) {
+/// The lowest latch that is not placed while all latches with an edge to it are.
+fn next(task: &NormalTask, placed: LatchSet) -> Option<u8>
+    ensures { (vs : List ℕ) → Members placed vs → PlacedNext (task_of task.now) vs result }
+{
+    let width = task.width;
+    let latch = 'search: loop {
+        'next: for v in 0..width {
+            if placed.contains(v) {
+                continue 'next;
+            }
+            let before = task.predecessors(v);
+            for p in 0..width {
+                if before.contains(p) && !placed.contains(p) {
                     continue 'next;
                 }
-                let before = self.predecessors(v);
-                for p in 0..width {
-                    if before.contains(p) && !placed.contains(p) {
-                        continue 'next;
-                    }
-                }
-                break 'search v;
             }
-            return None;
-        };
-        Some(latch)
-    }
+            break 'search v;
+        }
+        return None;
+    };
+    Some(latch)
+}
 
-    /// All latches in order, or, where there is a cycle, those that can be placed.
-    pub(crate) fn in_order(&self) -> Order
-        ensures { order_of result ≡ order (task_of self.now) }
-    {
-        let mut latches = [0; MOST_LATCHES];
-        let mut placed = LatchSet::EMPTY;
-        let width = self.width;
-        for count in 0..width {
-            let Some(latch) = self.next(placed) else {
-                return Order { latches, count };
-            };
-            latches[count as usize] = latch;
-            placed = placed.with(latch);
-        }
-        Order {
-            latches,
-            count: width,
-        }
+/// All latches in order, or, where there is a cycle, those that can be placed.
+pub(crate) fn in_order(task: &NormalTask) -> Order
+    ensures { order_of result ≡ order (task_of task.now) }
+{
+    let mut latches = [0; MOST_LATCHES];
+    let mut placed = LatchSet::EMPTY;
+    let width = task.width;
+    for count in 0..width {
+        let Some(latch) = next(task, placed) else {
+            return Order { latches, count };
+        };
+        latches[count as usize] = latch;
+        placed = placed.with(latch);
+    }
+    Order {
+        latches,
+        count: width,
     }
 }

@@ -1,4 +1,5 @@
 //! Recipes: for each latch in order, what throws it to 1 and back to 0 and leaves every other latch as it was.
+mod kept;
 mod recipe;
 mod table;
 
@@ -6,20 +7,20 @@ ghost use Rattle.std.specs.Prelude.{◌≡◌, ℕ, ◌+◌, ◌^◌, ◌<◌, �
 ghost use Rattle.words.specs.Sets.{most_latches, Below};
 ghost use Rattle.theory.specs.Recipes.{Table, none_kept, serves?, recipe_parts, opened, table_of};
 ghost use Rattle.theory.specs.Order.{order as order_meant};
-ghost use Rattle.theory.specs.Route.{kept_table};
+ghost use Rattle.theory.specs.Route.{kept_table, no_way?};
 ghost use Rattle.theory.specs.Tasks.{Move, Task, asks?};
-ghost use Rattle.planner.specs.declared.task.NormalTask.{NormalTask as Normal};
-ghost use Rattle.planner.specs.Asks.{asks_of};
+ghost use Rattle.tasks.specs.declared.task.NormalTask.{NormalTask as Normal};
+ghost use Rattle.tasks.specs.Asks.{asks_of};
 ghost use Rattle.planner.specs.Orders.{order_of};
-ghost use Rattle.planner.specs.Tasks.{move_of, task_of};
+ghost use Rattle.tasks.specs.Tasks.{move_of, task_of};
 ghost use Rattle.planner.specs.RecipesKept.{Splits, KeepsOne, Helps, Lengths, Short, Chosen, Held, Elsewhere, Tabled, before, kept_last};
 
-use crate::edges::is_asked;
-use crate::order::Order;
-use crate::task::{NormalMove, NormalTask};
+use crate::order::{Order, in_order};
 use book::MOST_LATCHES;
+pub(crate) use kept::Recipes;
 pub(crate) use recipe::Recipe;
 pub(crate) use table::RecipeTable;
+use tasks::{NormalMove, NormalTask, is_asked};
 use words::LatchSet;
 
 /// An empty place for a recipe.
@@ -88,83 +89,111 @@ impl RecipeTable {
     }
 }
 
-impl NormalTask {
-    /// The splitting latches.
-    fn splitting(&self) -> LatchSet
-        ensures { Splits (task_of self.now) result }
-    {
-        let mut found = LatchSet::EMPTY;
-        for latch in 0..self.width {
-            if self.is_splitting(latch) {
-                found = found.with(latch);
-            }
+/// The splitting latches.
+fn splitting(task: &NormalTask) -> LatchSet
+    ensures { Splits (task_of task.now) result }
+{
+    let mut found = LatchSet::EMPTY;
+    for latch in 0..task.width {
+        if task.is_splitting(latch) {
+            found = found.with(latch);
         }
-        found
     }
+    found
+}
 
-    /// The recipe of `latch` to `to` by the first move that serves, behind the first `placed` latches of the order.
-    fn recipe(
-        &self,
-        splitting: LatchSet,
-        table: &RecipeTable,
-        order: &Order,
-        placed: u8,
-        latch: u8,
-        to: bool,
-    ) -> Option<Recipe>
-        requires { (placed ≤ order.now.count) × ((Short order.now.latches placed table.now) × (Splits (task_of self.now) splitting)) }
-        ensures { (kept : Table) → KeepsOne table.now.ones kept → Lengths kept table.now
-            → Chosen self.now kept latch (before order.now.latches placed) to (3 ^ placed) result }
-    {
-        for (place, m) in self.moves[0..self.count as usize].iter().enumerate() {
-            if serves(table.ones, latch, to, *m) {
-                let helpers = helpers(splitting, latch, *m);
-                let length = length(table, order, placed, helpers);
-                return Some(Recipe {
-                    place: place as u8,
-                    helpers,
-                    length,
-                });
-            }
+/// The recipe of `latch` to `to` by the first move that serves, behind the first `placed` latches of the order.
+fn recipe_of(
+    task: &NormalTask,
+    splitting: LatchSet,
+    table: &RecipeTable,
+    order: &Order,
+    placed: u8,
+    latch: u8,
+    to: bool,
+) -> Option<Recipe>
+    requires { (placed ≤ order.now.count) × ((Short order.now.latches placed table.now) × (Splits (task_of task.now) splitting)) }
+    ensures { (kept : Table) → KeepsOne table.now.ones kept → Lengths kept table.now
+        → Chosen task.now kept latch (before order.now.latches placed) to (3 ^ placed) result }
+{
+    for (place, m) in task.moves[0..task.count as usize].iter().enumerate() {
+        if serves(table.ones, latch, to, *m) {
+            let helpers = helpers(splitting, latch, *m);
+            let length = length(table, order, placed, helpers);
+            return Some(Recipe {
+                place: place as u8,
+                helpers,
+                length,
+            });
         }
-        None
     }
+    None
+}
 
-    /// The table with what is kept of the next latch of the order.
-    fn with_next(
-        &self,
-        splitting: LatchSet,
-        table: RecipeTable,
-        order: &Order,
-        placed: u8,
-    ) -> RecipeTable
-        requires { (placed < order.now.count) × ((order_of order.now ≡ order_meant (task_of self.now)) × ((Splits (task_of self.now) splitting) × (Tabled self.now order.now.latches placed (table_of (task_of self.now) (before order.now.latches placed)) table))) }
-        ensures { Tabled self.now order.now.latches (placed + 1)
-            (table_of (task_of self.now) (before order.now.latches (placed + 1))) result }
-    {
-        let latch = order.latches[placed as usize];
-        let one = self.recipe(splitting, &table, order, placed, latch, true);
-        let zero = self.recipe(splitting, &table, order, placed, latch, false);
-        let mut next = table;
-        next.keep(latch, is_asked(self.want, false, latch), one, zero);
-        next
+/// The table with what is kept of the next latch of the order.
+fn with_next(
+    task: &NormalTask,
+    splitting: LatchSet,
+    table: RecipeTable,
+    order: &Order,
+    placed: u8,
+) -> RecipeTable
+    requires { (placed < order.now.count) × ((order_of order.now ≡ order_meant (task_of task.now)) × ((Splits (task_of task.now) splitting) × (Tabled task.now order.now.latches placed (table_of (task_of task.now) (before order.now.latches placed)) table))) }
+    ensures { Tabled task.now order.now.latches (placed + 1)
+        (table_of (task_of task.now) (before order.now.latches (placed + 1))) result }
+{
+    let latch = order.latches[placed as usize];
+    let one = recipe_of(task, splitting, &table, order, placed, latch, true);
+    let zero = recipe_of(task, splitting, &table, order, placed, latch, false);
+    let mut next = table;
+    next.keep(latch, is_asked(task.want, false, latch), one, zero);
+    next
+}
+
+/// What is kept of each latch, placed in this order.
+fn table_of(task: &NormalTask, splitting: LatchSet, order: &Order) -> RecipeTable
+    requires { (order_of order.now ≡ order_meant (task_of task.now)) × (Splits (task_of task.now) splitting) }
+    ensures { Tabled task.now order.now.latches order.now.count (kept_table (task_of task.now)) result }
+{
+    let mut table = RecipeTable {
+        ones: LatchSet::EMPTY,
+        zeros: LatchSet::EMPTY,
+        up: [NO_RECIPE; MOST_LATCHES],
+        down: [NO_RECIPE; MOST_LATCHES],
+    };
+    for placed in 0..order.count {
+        table = with_next(task, splitting, table, order, placed);
     }
+    table
+}
 
-    /// What is kept of each latch, placed in this order.
-    pub(crate) fn recipes(&self, order: &Order) -> RecipeTable
-        requires { order_of order.now ≡ order_meant (task_of self.now) }
-        ensures { Tabled self.now order.now.latches order.now.count (kept_table (task_of self.now)) result }
+/// The recipes of which these are the order, the splitting latches and the table.
+fn bound(task: NormalTask, order: Order, splitting: LatchSet, table: RecipeTable) -> Recipes
+    requires { (order_of order ≡ order_meant (task_of task)) × ((Splits (task_of task) splitting) × (Tabled task order.latches order.count (kept_table (task_of task)) table)) }
+    ensures { result.task ≡ task }
+{
+    Recipes {
+        task,
+        order,
+        splitting,
+        table,
+    }
+}
+
+impl Recipes {
+    /// The recipes of the task.
+    pub(crate) fn of(task: NormalTask) -> Recipes
+        ensures { result.task ≡ task }
     {
-        let splitting = self.splitting();
-        let mut table = RecipeTable {
-            ones: LatchSet::EMPTY,
-            zeros: LatchSet::EMPTY,
-            up: [NO_RECIPE; MOST_LATCHES],
-            down: [NO_RECIPE; MOST_LATCHES],
-        };
-        for placed in 0..order.count {
-            table = self.with_next(splitting, table, order, placed);
-        }
-        table
+        let order = in_order(&task);
+        let splitting = splitting(&task);
+        let table = table_of(&task, splitting, &order);
+        bound(task, order, splitting, table)
+    }
+    /// Whether a latch wanted at 1 has no kept recipe to 1.
+    pub(crate) fn is_no_way(&self) -> bool
+        ensures { result ≡ no_way? (task_of self.now.task) }
+    {
+        !self.task.want.ones.difference(self.table.ones).is_empty()
     }
 }

@@ -2,9 +2,9 @@
 use Rattle.std.proofs.Common.{◌≡◌, ℕ, zero, suc, ◌+◌, ◌-◌, ◌<◌, ◌≤◌, Bool, cond, ltb, List, [], ◌∷◌, length, get_or, Some, None, sym, refl, ap, ◌∙◌, subst, ap₂, inl, inr, arith}
 use Rattle.std.proofs.lemmas.Bool.{cases_lt, lt-ltb, le-ltb, ltb-true}
 use Rattle.tasks.specs.Asks.{rules_of}
-use Rattle.routes.specs.Lookup.{nth}
-use Rattle.routes.proofs.Nth.{nth_past}
-use Rattle.routes.specs.Routes.{moves_of}
+use Rattle.planner.specs.Lookup.{nth}
+use Rattle.planner.proofs.Nth.{nth_past}
+use Rattle.planner.specs.Routes.{moves_of}
 use Rattle.runs.specs.declared.Answer.TheVariants.{Threw}
 use Rattle.runs.specs.declared.Call.TheVariants.{Step}
 use Rattle.runs.specs.Model.{Progress, resting, running, answered_in, going_on, progress_after}

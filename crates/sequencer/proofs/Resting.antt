@@ -17,9 +17,9 @@ use Rattle.rules.specs.Naming.{errand_of, names?}
 use Rattle.rules.specs.NormalForm.{route}
 use Rattle.rules.specs.Rules.{Rule, Setting}
 use Rattle.tasks.specs.Asks.{rule_of, rules_of, setting_of}
-use Rattle.routes.specs.declared.route.table.Route.{Route}
-use Rattle.routes.specs.Plans.{errand_task, refusal, Planned, LeadsThere}
-use Rattle.routes.specs.Routes.{moves_of}
+use Rattle.planner.specs.declared.route.table.Route.{Route}
+use Rattle.planner.specs.Plans.{errand_task, refusal, Planned, LeadsThere}
+use Rattle.planner.specs.Routes.{moves_of}
 use Rattle.runs.specs.declared.Answer.{Answer}
 use Rattle.runs.specs.declared.Answer.TheVariants.{Found, Done, Declined}
 use Rattle.runs.specs.declared.Call.{Call}

@@ -11,7 +11,7 @@ use Rattle.words.specs.Sets.{has}
 use Rattle.rules.specs.declared.refusal.Refusal.{Refusal}
 use Rattle.rules.specs.Rules.{Setting}
 use Rattle.tasks.specs.Asks.{rules_of}
-use Rattle.routes.specs.Routes.{moves_of}
+use Rattle.planner.specs.Routes.{moves_of}
 use Rattle.runs.specs.declared.Call.{Call}
 use Rattle.runs.specs.declared.Call.TheVariants.{Aim, Step, Nudge, Stop}
 use Rattle.runs.specs.declared.Answer.{Answer}

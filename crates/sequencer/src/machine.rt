@@ -19,7 +19,7 @@ ghost use Rattle.sequencer.specs.Machines.{Does, found_or, done_or, progress_of,
 
 use book::{Book, Move, PartialSetting};
 pub(crate) use kept::Machine;
-use routes::{Route, plan};
+use planner::{Route, plan};
 use rules::Refusal;
 use runs::{Answer, Call};
 pub(crate) use shown::Shown;

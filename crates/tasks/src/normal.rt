@@ -10,7 +10,7 @@ ghost use Rattle.tasks.specs.Asks.{asks_of, rule_of, rules_of, setting_of};
 ghost use Rattle.tasks.specs.Tasks.{move_of, task_of};
 
 use crate::task::{NormalMove, NormalTask};
-use book::{Book, MOST_MOVES, Move, PartialSetting};
+use book::{Book, Errand, MOST_MOVES, Move, PartialSetting};
 use rules::in_normal_form;
 use words::{LatchSet, MOST_LATCHES};
 
@@ -122,6 +122,13 @@ impl NormalTask {
             moves: [NO_MOVE; MOST_MOVES],
             want: PartialSetting::EMPTY,
         }
+    }
+
+    /// The errand in normal form.
+    pub fn of(errand: &Errand) -> NormalTask
+        ensures { task_of result ≡ task (rules_of errand.now.book) (setting_of errand.now.book.latches errand.now.start) (asks_of errand.now.want) }
+    {
+        normal_task(&errand.book, errand.start, errand.want)
     }
 
     /// The book, the start and the errand in normal form. The errand wants the latches `named`, at 1 those in `wanted` and the others at 0.

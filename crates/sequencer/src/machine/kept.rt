@@ -1,11 +1,11 @@
 //! What a sequencer keeps beside its panel.
 ghost use Rattle.std.specs.Prelude.{◌≡◌, ℕ, ◌<◌, true, length, slice_index};
-ghost use Rattle.routes.specs.Routes.{moves_of};
+ghost use Rattle.planner.specs.Routes.{moves_of};
 ghost use Rattle.sequencer.specs.States.{more?};
 
 use crate::machine::state::State;
 use book::Book;
-use routes::Route;
+use planner::Route;
 
 /// A book, what is being done, and the route of the run. While a run is under way, not all of its moves are thrown.
 #[derive(Clone, Copy)]

@@ -1,7 +1,7 @@
 use Rattle.std.proofs.Common.{sym, subst}
 use Rattle.theory.specs.declared.Judgement.{Judgement}
 use Rattle.planner.specs.Errands.{Says}
-use Rattle.planner.proofs.Judging.{says_so}
+use Rattle.planner.proofs.ErrandsJudged.{says_so}
 use Rattle.planner.proofs.judged.judge.Goals as goal
 
 pub returns : goal.returns

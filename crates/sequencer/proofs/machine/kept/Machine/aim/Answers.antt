@@ -2,8 +2,8 @@ use Rattle.std.proofs.Common.{◌≡◌, ℕ, ◌+◌, true, length, Err, sym, r
 use Rattle.std.proofs.lemmas.Result.{err_from_is_err_and}
 use Rattle.rules.specs.declared.refusal.Refusal.{Refusal}
 use Rattle.tasks.specs.Asks.{rules_of, setting_of}
-use Rattle.routes.specs.Plans.{Planned}
-use Rattle.routes.specs.Routes.{moves_of}
+use Rattle.planner.specs.Plans.{Planned}
+use Rattle.planner.specs.Routes.{moves_of}
 use Rattle.runs.specs.declared.Answer.{Answer}
 use Rattle.runs.specs.declared.Call.TheVariants.{Aim}
 use Rattle.runs.specs.Model.{going_on}

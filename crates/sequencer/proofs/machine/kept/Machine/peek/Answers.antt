@@ -1,5 +1,5 @@
 use Rattle.std.proofs.Common.{sym, ap, ◌∙◌}
-use Rattle.routes.specs.Routes.{moves_of}
+use Rattle.planner.specs.Routes.{moves_of}
 use Rattle.runs.specs.Views.{peeked_in}
 use Rattle.sequencer.specs.declared.machine.state.State.{State}
 use Rattle.sequencer.specs.States.{progress_in}

@@ -1,5 +1,5 @@
 use Rattle.std.proofs.Common.{◌≡◌, ℕ, ◌+◌, ◌-◌, true, length, refl, ap, ◌∙◌, subst, arith}
-use Rattle.routes.specs.Routes.{moves_of}
+use Rattle.planner.specs.Routes.{moves_of}
 use Rattle.sequencer.specs.States.{more?}
 use Rattle.sequencer.proofs.Going.{more_left, next_there, step_does}
 use Rattle.sequencer.proofs.machine.kept.Machine.step.Goals as goal

@@ -1,9 +1,0 @@
-use Rattle.planner.specs.Tasks.{task_of}
-use Rattle.planner.proofs.SidesKept.{linked}
-use Rattle.planner.proofs.class.LinksGraph.neighbours.Goals as goal
-
-pub returns : goal.returns
-returns c =
-    let g = c.args.self.now in
-    linked (task_of g.task.now) g.position g.latch c.args.node c.onward-onward.result c.back.result c.union.result
-    c.onward-onward.ensures c.back.ensures c.union.ensures

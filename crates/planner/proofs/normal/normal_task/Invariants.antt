@@ -1,6 +1,0 @@
-use Rattle.planner.proofs.NormalFormTasks.{Brought}
-use Rattle.planner.proofs.normal.normal_task.Given as goal
-
--- the moves so far are brought to normal form
-abbrev pub invariant-loop-number : goal.invariant-loop-number
-invariant-loop-number l = Brought l.book l.start l.number l.count l.moves

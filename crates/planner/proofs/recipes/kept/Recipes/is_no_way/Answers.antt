@@ -1,0 +1,8 @@
+use Rattle.std.proofs.Common.{true}
+use Rattle.planner.proofs.Judging.{no_way_told}
+use Rattle.planner.proofs.recipes.kept.Recipes.is_no_way.Goals as goal
+
+pub returns : goal.returns
+returns c =
+    let s = c.args.self.now in
+    no_way_told s.task s.table.ones c.difference.result (s.members true) c.difference.ensures c.is_empty.result c.is_empty.ensures

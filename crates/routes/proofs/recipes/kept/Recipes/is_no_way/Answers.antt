@@ -1,8 +1,0 @@
-use Rattle.std.proofs.Common.{true}
-use Rattle.routes.proofs.Judging.{no_way_told}
-use Rattle.routes.proofs.recipes.kept.Recipes.is_no_way.Goals as goal
-
-pub returns : goal.returns
-returns c =
-    let s = c.args.self.now in
-    no_way_told s.task s.table.ones c.difference.result (s.members true) c.difference.ensures c.is_empty.result c.is_empty.ensures

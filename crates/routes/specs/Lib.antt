@@ -1,9 +1,0 @@
-pub mod Laid
-pub mod Limits
-pub mod Listed
-pub mod Lookup
-pub mod Made
-pub mod Orders
-pub mod Plans
-pub mod RecipesKept
-pub mod Routes
