@@ -1,7 +1,7 @@
 //! The class of a task: circles in its causal graph, and the two sides of a latch.
 ghost use Rattle.std.specs.Prelude.{◌≡◌, ℕ, true, not, ◌&&◌, ◌||◌};
 ghost use Rattle.words.specs.Sets.{has};
-ghost use Rattle.theory.specs.Class.{edge?, acyclic?, static?, reversible?, dependent?, cut?, link?, side?, splitting?, in_class?};
+ghost use Rattle.theory.specs.Class.{edge?, walk?, acyclic?, static?, reversible?, dependent?, cut?, link?, side?, splitting?, in_class?};
 ghost use Rattle.tasks.specs.Tasks.{task_of};
 
 use crate::task::NormalTask;
@@ -70,17 +70,19 @@ impl NormalTask {
         all
     }
 
+    /// Whether `latch` reaches itself along edges.
+    fn is_on_circle(&self, latch: u8) -> bool
+        ensures { result ≡ walk? (edge? (task_of self.now)) self.now.width latch latch }
+    {
+        let edges = Edges { task: self };
+        reached_from(&edges, latch).contains(latch)
+    }
+
     /// Whether no latch reaches itself along edges.
     pub(crate) fn is_acyclic(&self) -> bool
         ensures { result ≡ acyclic? (task_of self.now) }
     {
-        let edges = Edges { task: self };
-        for latch in 0..self.width {
-            if reached_from(&edges, latch).contains(latch) {
-                return false;
-            }
-        }
-        true
+        (0..self.width).all(|latch| !self.is_on_circle(latch))
     }
 
     /// The side of `latch` at `position`: what links connect to the latches that depend on it there.
@@ -114,11 +116,6 @@ impl NormalTask {
     pub fn is_in_class(&self) -> bool
         ensures { result ≡ in_class? (task_of self.now) }
     {
-        for latch in 0..self.width {
-            if !self.is_of_a_kind(latch) {
-                return false;
-            }
-        }
-        self.is_acyclic()
+        (0..self.width).all(|latch| self.is_of_a_kind(latch)) && self.is_acyclic()
     }
 }

@@ -32,12 +32,7 @@ impl NormalTask {
     fn is_thrown(&self, latch: u8, to: bool) -> bool
         ensures { result ≡ thrown? (task_of self.now) latch to }
     {
-        for m in self.moves[0..self.count as usize].iter() {
-            if m.latch == latch && m.to == to {
-                return true;
-            }
-        }
-        false
+        self.moves().iter().any(|m| m.latch == latch && m.to == to)
     }
 
     /// Whether `latch` is static: never thrown to 1, or wanted at 0 and never thrown to 0.
@@ -50,26 +45,19 @@ impl NormalTask {
 
     /// Whether some move is the reverse of `m`, a move of `latch`.
     fn has_reverse(&self, latch: u8, m: NormalMove) -> bool
-        requires { Below self.now.width m.asks.named }
-        ensures { result ≡ some_of (reverse? (task_of self.now) latch (move_of m)) (moves_of self.now) }
+        ensures { Below self.now.width m.asks.named → result ≡ some_of (reverse? (task_of self.now) latch (move_of m)) (moves_of self.now) }
     {
-        for other in self.moves[0..self.count as usize].iter() {
-            if is_reverse(latch, m, *other) {
-                return true;
-            }
-        }
-        false
+        self.moves()
+            .iter()
+            .any(|other| is_reverse(latch, m, *other))
     }
 
     /// Whether `latch` is reversible: each move of it has a reverse.
     pub(crate) fn is_reversible(&self, latch: u8) -> bool
         ensures { result ≡ reversible? (task_of self.now) latch }
     {
-        for m in self.moves[0..self.count as usize].iter() {
-            if m.latch == latch && !self.has_reverse(latch, *m) {
-                return false;
-            }
-        }
-        true
+        self.moves()
+            .iter()
+            .all(|m| m.latch != latch || self.has_reverse(latch, *m))
     }
 }

@@ -33,12 +33,7 @@ fn asks_one(asked: PartialSetting, start: LatchSet, latch: u8) -> bool
 fn normal_asks(asked: PartialSetting, start: LatchSet) -> PartialSetting
     ensures { (u : ℕ) → asks_of result u ≡ exchanged_ask (asks_of asked u) (has start u) }
 {
-    let mut ones = LatchSet::EMPTY;
-    for latch in 0..MOST_LATCHES {
-        if asks_one(asked, start, latch) {
-            ones = ones.with(latch);
-        }
-    }
+    let ones = LatchSet::from_fn(MOST_LATCHES, |latch| asks_one(asked, start, latch));
     PartialSetting {
         named: asked.named,
         ones,
