@@ -1,7 +1,7 @@
 -- One move in normal form: it is legal, and leaves what it leaves, just as the move of the book that it stands for.
 use Rattle.std.proofs.Common.{◌≡◌, ℕ, ◌<◌, Bool, true, false, not, ◌≢◌, length, sym, refl, ap, ◌∙◌, subst, inl, inr, get_or-set_other, get_or-set_same}
 use mathlib.Core.Path.{fun_ext}
-use Rattle.std.proofs.lemmas.Bool.{both_ways, not-true, not-false, cases_Bool, cases_eq, eq-eqb, ne_eqb}
+use Rattle.std.proofs.lemmas.Bool.{both_ways, not-true, not-false, false_from_ne_true, true_from_ne_false, cases_eq, eq-eqb, ne_eqb}
 use Rattle.theory.specs.Tasks as tasks
 use Rattle.theory.specs.Tasks.{Ask, any, at_zero, at_one, Met, put, all_zero, Meets, asks?, ask_against}
 use Rattle.theory.proofs.Running.{put_same, put_other}
@@ -51,10 +51,10 @@ met_opposite false true b h = λ e. both_ways true (sym e) refl
 -- a move that does not ask its own latch at its target asks of it no more than that it is not there
 own_met : (a : Ask) (p to : Bool) → asks? to a ≡ false → p ≢ to → Met a p
 own_met any p to h n = tt
-own_met at_zero p true h n = elim (cases_Bool p) [ inl e ↦ absurd (n e) | inr e ↦ e ]
+own_met at_zero p true h n = false_from_ne_true p n
 own_met at_zero p false h n = absurd (both_ways true h refl)
 own_met at_one p true h n = absurd (both_ways true h refl)
-own_met at_one p false h n = elim (cases_Bool p) [ inl e ↦ e | inr e ↦ absurd (n e) ]
+own_met at_one p false h n = true_from_ne_false p n
 
 -- a move that asks its own latch at its target is never legal
 pub own_at_target : (a : Ask) (p to : Bool) → Met a p → p ≢ to → asks? to a ≡ false

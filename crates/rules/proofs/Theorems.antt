@@ -1,7 +1,7 @@
 -- The theorems on books as they stand: through normal form, from those on tasks.
-use Rattle.std.proofs.Common.{sym, subst, inl, inr, arith}
+use Rattle.std.proofs.Common.{sym, subst, arith}
 use lib.ListN.{length-map}
-use Rattle.std.proofs.lemmas.Bool.{cases_Bool}
+use Rattle.std.proofs.lemmas.Bool.{true_from_ne_false}
 use Rattle.theory.specs.Tasks as tasks
 use Rattle.theory.specs.Tasks.{Meets}
 use Rattle.theory.specs.Route as routes
@@ -35,9 +35,7 @@ no_way_is_none r well s fits w within class =
           let run = normal.runs way.0 way.1.0 way.1.1.0 in
           (no_way_is_right (task r s w) normal.well_formed class).0 said
           (run.0, (exchange s way.1.0, (run.1.1, (normal.met way.1.0).0 way.1.1.1)))),
-      λ none.
-          elim (cases_Bool (routes.no_way? (task r s w)))
-          [ inl h ↦ h | inr h ↦ absurd (none (route r s w, route_leads r well s fits w within class h)) ],
+      λ none. true_from_ne_false (routes.no_way? (task r s w)) (λ h. none (route r s w, route_leads r well s fits w within class h)),
     )
 
 pub length_is_bounded : LengthIsBounded

@@ -1,6 +1,6 @@
 -- How many numbers below n pass a test.
 use Rattle.std.proofs.Common.{◌≡◌, ℕ, zero, suc, ◌<◌, ◌≤◌, Bool, true, false, sym, refl, ap, ◌∙◌, inl, inr, arith}
-use Rattle.std.proofs.lemmas.Bool.{both_ways, cases_Bool}
+use Rattle.std.proofs.lemmas.Bool.{both_ways, false_from_ne_true}
 use Rattle.theory.proofs.Searches.{below_cases}
 
 abbrev add_if : Bool → ℕ → ℕ
@@ -51,7 +51,4 @@ count_bound p (suc n) =
 
 pub count_none : (p : ℕ → Bool) (n u : ℕ) → count p n ≤ 0 → u < n → p u ≡ false
 count_none p n u h l =
-    elim (cases_Bool (p u)) [
-      | inl e ↦ absurd (let k = count_lt (λ _. false) p n u (λ w _ f. absurd (both_ways false refl f)) l refl e in omega arith)
-      | inr e ↦ e
-    ]
+    false_from_ne_true (p u) (λ e. let k = count_lt (λ _. false) p n u (λ w _ f. absurd (both_ways false refl f)) l refl e in omega arith)

@@ -1,19 +1,20 @@
 -- The tests of the class say what is meant by them.
-use Rattle.std.proofs.Common.{◌≡◌, ℕ, ◌<◌, ◌≤◌, Bool, true, false, not, ◌&&◌, ◌||◌, eqb, ◌≢◌, ◌↔◌, sym, refl, ap, ◌∙◌, subst, inl, inr, arith}
+use Rattle.std.proofs.Common.{◌≡◌, Decides, ℕ, ◌<◌, ◌≤◌, Bool, true, false, not, ◌&&◌, ◌||◌, eqb, ◌≢◌, ◌⊎◌, sym, refl, ap, ◌∙◌, subst, inl, inr, arith}
 use mathlib.Core.Bool.{beq}
-use Rattle.std.proofs.lemmas.Bool.{both_ways, cases_Bool, cases_eq, cases_lt, and_parts, and_from, or_left, or_right, or_cases, not-true, not_from_false, eqb-true, eqb-false, eq-eqb, ne_eqb}
+use Rattle.std.proofs.lemmas.Bool.{both_ways, cases_Bool, cases_eq, cases_lt, and_from, or_left, or_right, not_from_false, eq-eqb, ne_eqb}
+use Rattle.std.specs.Cmp.{booleans_Decides}
+use Rattle.std.proofs.lemmas.Bool.Decides.{Decides-like, Decides-not, Decides-and, Decides-or, Decides-eqb}
 use Rattle.theory.specs.Searches.{In, some_of}
 use Rattle.theory.specs.Tasks.{Ask, any, at_zero, at_one, Move, Task, WellFormed, asked?, asks?, ask_for}
 use Rattle.theory.specs.Class.{edge?, walk?, acyclic?, thrown?, static?, same_ask?, reverse?, reversible?, dependent?, cut?, link?, side?, splitting?, in_class?}
 use Rattle.graph.specs.Walks.{Walk, one, step}
-use Rattle.theory.specs.Meaning.{Throws, Edge, Acyclic, Static, Reversible, Dependent, Uncut, Link, Side, Splitting}
+use Rattle.theory.specs.Meaning.{Throws, Edge, Acyclic, Static, Reversible, Dependent, Uncut, Link, Connected, Side, Splitting}
 use Rattle.theory.specs.Theorems.{ClassIsMeant}
-use Rattle.theory.proofs.Searches.{some_of_true, some_of_from, all_of_from, some_below_true, some_below_from, all_below_true, all_below_from, beq_true, beq_from}
-use Rattle.theory.proofs.Walks.{walk_map, walk_true, walk_from}
-use Rattle.theory.proofs.Ordered.{asked_not_any, edge_parts, acyclic}
-use Rattle.theory.proofs.Sides.{edge_made, dependent_made, dependent_within, link_within}
+use Rattle.theory.proofs.Searches.{some_of_from, all_of_from, all_below_from, some_of_decides, some_below_decides, all_below_decides, beq_from}
+use Rattle.theory.proofs.Walks.{walk_map, walk_decides}
+use Rattle.theory.proofs.Ordered.{asked_not_any, edge_ends, walk_starts}
+use Rattle.theory.proofs.Sides.{dependent_within, link_within}
 use Rattle.theory.proofs.Tables.{reverse_of}
-use Rattle.theory.proofs.Soundness.{class_acyclic, class_each}
 
 -- asks
 not_any_asked : (a : Ask) → a ≢ any → asked? a ≡ true
@@ -40,56 +41,40 @@ same_ask_refl a b e = ap (λ z. same_ask? z b) e ∙ self b
     self at_zero = refl
     self at_one = refl
 
--- a test that fails unless it passes
-fails : (b : Bool) → (b ≡ true → ⊥) → b ≡ false
-fails b h = elim (cases_Bool b) [ inl e ↦ absurd (h e) | inr e ↦ e ]
+-- the tests of asks decide
+asked_meant : (a : Ask) → Decides (asked? a) (a ≢ any)
+asked_meant a = (asked_not_any a, not_any_asked a)
 
-edge_meant : (t : Task) (u v : ℕ) → edge? t u v ≡ true ↔ Edge t u v
-edge_meant t u v = (
-  (λ h. let p = edge_parts t u v h in let r = p.1 in (p.0, (r.0, ((r.1, r.2), asked_not_any _ r.3)))),
-  λ e. let r = e.1 in edge_made t r.0 u v r.1.0.0 r.1.0.1 e.0 (not_any_asked _ r.1.1),
-)
+asks_meant : (x : Bool) (a : Ask) → Decides (asks? x a) (a ≡ ask_for x)
+asks_meant x a = (asks_is x a, is_asks x a)
 
-dependent_meant : (t : Task) (x : Bool) (v u : ℕ) → dependent? t x v u ≡ true ↔ Dependent t x v u
+-- a search for a move of v that passes a test
+move_meant : (t : Task) (v : ℕ) (test : Move → Bool) (P : Move → Type 0) → ((m : Move) → Decides (test m) (P m)) →
+    Decides (some_of (λ m. eqb m.latch v && test m) t.moves) ((m : Move) × (Throws t v m × P m))
+move_meant t v test P each =
+    Decides-like _ (λ r. (r.0, ((r.1, r.2.0), r.2.1))) (λ r. (r.0, r.1.0.0, (r.1.0.1, r.1.1)))
+    (some_of_decides (λ m. eqb m.latch v && test m) (λ m. (m.latch ≡ v) × P m) (λ m. Decides-and _ _ (Decides-eqb m.latch v) (each m)) t.moves)
+
+edge_meant : (t : Task) (u v : ℕ) → Decides (edge? t u v) (Edge t u v)
+unfolding edge?
+edge_meant t u v =
+    Decides-and _ _ (Decides-not _ (Decides-eqb u v)) (move_meant t v (λ m. asked? (m.asks u)) (λ m. m.asks u ≢ any) (λ m. asked_meant (m.asks u)))
+
+dependent_meant : (t : Task) (x : Bool) (v u : ℕ) → Decides (dependent? t x v u) (Dependent t x v u)
 unfolding dependent?
-dependent_meant t x v u = (
-  (λ h.
-      let p = and_parts (not (eqb u v)) _ h in
-      let r = some_of_true (λ m. eqb m.latch u && asks? x (m.asks v)) t.moves p.1 in
-      let q = and_parts (eqb r.0.latch u) _ r.2 in
-      (eqb-false u v (not-true _ p.0), (r.0, ((r.1, eqb-true _ _ q.0), asks_is x _ q.1)))),
-  λ e. let r = e.1 in dependent_made t x r.0 v u r.1.0.0 r.1.0.1 (λ d. e.0 (sym d)) (is_asks x _ r.1.1),
-)
+dependent_meant t x v u =
+    Decides-and _ _ (Decides-not _ (Decides-eqb u v))
+    (move_meant t u (λ m. asks? x (m.asks v)) (λ m. m.asks v ≡ ask_for x) (λ m. asks_meant x (m.asks v)))
 
-thrown_meant : (t : Task) (v : ℕ) (x : Bool) → not (thrown? t v x) ≡ true ↔ ((m : Move) → Throws t v m → m.to ≢ x)
-thrown_meant t v x = (
-  (λ h m c e.
-      both_ways _ (not-true _ h)
-      (some_of_from (λ k. eqb k.latch v && beq k.to x) t.moves m c.0 (and_from (eqb m.latch v) _ (eq-eqb _ _ c.1) (beq_from _ _ e)))),
-  λ h. not_from_false _ (fails _ (λ p.
-      let r = some_of_true (λ k. eqb k.latch v && beq k.to x) t.moves p in
-      let q = and_parts (eqb r.0.latch v) _ r.2 in
-      h r.0 (r.1, eqb-true _ _ q.0) (beq_true _ _ q.1))),
-)
+thrown_meant : (t : Task) (v : ℕ) (x : Bool) → Decides (not (thrown? t v x)) ((m : Move) → Throws t v m → m.to ≢ x)
+thrown_meant t v x =
+    Decides-like _ (λ n m c e. n (m, (c, e))) (λ h r. h r.0 r.1.0 r.1.1)
+    (Decides-not _ (move_meant t v (λ m. beq m.to x) (λ m. m.to ≡ x) (λ m. booleans_Decides m.to x)))
 
-static_meant : (t : Task) (v : ℕ) → static? t v ≡ true ↔ Static t v
+static_meant : (t : Task) (v : ℕ) → Decides (static? t v) (Static t v)
 unfolding static?
-static_meant t v = (
-  (λ h.
-      elim (or_cases (not (thrown? t v true)) _ h) [
-        | inl a ↦ inl ((thrown_meant t v true).0 a)
-        | inr b ↦
-            let p = and_parts (asks? false (t.want v)) _ b in
-            inr (asks_is false _ p.0, (thrown_meant t v false).0 p.1)
-      ]),
-  λ s.
-      elim s [
-        | inl a ↦ or_left (not (thrown? t v true)) _ ((thrown_meant t v true).1 a)
-        | inr b ↦
-            or_right (not (thrown? t v true)) _
-            (and_from (asks? false (t.want v)) _ (is_asks false _ b.0) ((thrown_meant t v false).1 b.1))
-      ],
-)
+static_meant t v =
+    Decides-or _ _ (thrown_meant t v true) (Decides-and _ _ (asks_meant false (t.want v)) (thrown_meant t v false))
 
 module _ (t : Task) (well : WellFormed t) where
   -- nothing is asked of a latch that the task does not have
@@ -103,7 +88,7 @@ module _ (t : Task) (well : WellFormed t) where
       is_any at_zero h = absurd (both_ways true h refl)
       is_any at_one h = absurd (both_ways true h refl)
 
-  reversible_meant : (v : ℕ) → reversible? t v ≡ true ↔ Reversible t v
+  reversible_meant : (v : ℕ) → Decides (reversible? t v) (Reversible t v)
   unfolding reversible?
   reversible_meant v = (
     (λ h m c.
@@ -131,69 +116,26 @@ module _ (t : Task) (well : WellFormed t) where
         ]),
   )
 
-  uncut_meant : (x : Bool) (v a b : ℕ) → (edge? t a b && not (cut? t x v a b)) ≡ true ↔ Uncut t x v a b
-  uncut_meant x v a b = (
-    (λ h.
-        let p = and_parts (edge? t a b) _ h in (
-          (edge_meant t a b).0 p.0,
-          λ c.
-              both_ways _ (not-true _ p.1)
-              (and_from (eqb a v) _ (eq-eqb a v c.0)
-              (and_from (dependent? t x v b) _ ((dependent_meant t x v b).1 c.1)
-              (not_from_false _ (fails _ (λ q. c.2 ((dependent_meant t (not x) v b).0 q)))))),
-        )),
-    λ c.
-        and_from (edge? t a b) _ ((edge_meant t a b).1 c.0)
-        (not_from_false _ (fails _ (λ q.
-        let p = and_parts (eqb a v) _ q in
-        let r = and_parts (dependent? t x v b) _ p.1 in
-        c.1 (
-          eqb-true a v p.0,
-          (dependent_meant t x v b).0 r.0,
-          λ k. both_ways _ (not-true _ r.1) ((dependent_meant t (not x) v b).1 k),
-        )))),
-  )
+  uncut_meant : (x : Bool) (v a b : ℕ) → Decides (edge? t a b && not (cut? t x v a b)) (Uncut t x v a b)
+  uncut_meant x v a b =
+      Decides-and _ _ (edge_meant t a b)
+      (Decides-not _ (Decides-like _ (λ p. (p.0, p.1.0, p.1.1)) (λ p. (p.0, (p.1, p.2)))
+      (Decides-and _ _ (Decides-eqb a v) (Decides-and _ _ (dependent_meant t x v b) (Decides-not _ (dependent_meant t (not x) v b))))))
 
-  link_meant : (x : Bool) (v a b : ℕ) → link? t x v a b ≡ true ↔ Link t x v a b
+  link_meant : (x : Bool) (v a b : ℕ) → Decides (link? t x v a b) (Link t x v a b)
   unfolding link?
-  link_meant x v a b = (
-    (λ h.
-        elim (or_cases (edge? t a b && not (cut? t x v a b)) _ h) [ inl p ↦ inl ((uncut_meant x v a b).0 p) | inr p ↦ inr ((uncut_meant x v b a).0 p) ]),
-    λ c.
-        elim c [
-          | inl p ↦ or_left _ _ ((uncut_meant x v a b).1 p)
-          | inr p ↦ or_right (edge? t a b && not (cut? t x v a b)) _ ((uncut_meant x v b a).1 p)
-        ],
-  )
+  link_meant x v a b = Decides-or _ _ (uncut_meant x v a b) (uncut_meant x v b a)
 
-  side_meant : (x : Bool) (v u : ℕ) → side? t x v u ≡ true ↔ Side t x v u
+  connected_meant : (x : Bool) (v a b : ℕ) → Decides (eqb a b || walk? (link? t x v) t.width a b) (Connected t x v a b)
+  connected_meant x v a b =
+      Decides-or _ _ (Decides-eqb a b) (walk_decides (link? t x v) (Link t x v) (link_meant x v) t.width (link_within t well x v) a b)
+
+  side_meant : (x : Bool) (v u : ℕ) → Decides (side? t x v u) (Side t x v u)
   unfolding side?
-  side_meant x v u = (
-    (λ h.
-        let r = some_below_true (λ w. dependent? t x v w && (eqb w u || walk? (link? t x v) t.width w u)) t.width h in
-        let w = r.0 in
-        let p = and_parts (dependent? t x v w) _ r.2 in (
-          w,
-          (
-            (dependent_meant t x v w).0 p.0,
-            elim (or_cases (eqb w u) _ p.1) [
-              | inl e ↦ inl (eqb-true w u e)
-              | inr k ↦ inr (walk_map (λ a b. (link_meant x v a b).0) (walk_true (link? t x v) t.width w u k))
-            ],
-          ),
-        )),
-    λ c.
-        let w = c.0 in
-        let dependent = (dependent_meant t x v w).1 c.1.0 in
-        some_below_from (λ z. dependent? t x v z && (eqb z u || walk? (link? t x v) t.width z u)) t.width w (dependent_within t well x v w dependent)
-        (and_from (dependent? t x v w) _ dependent
-        (elim c.1.1 [
-          | inl e ↦ or_left (eqb w u) _ (eq-eqb w u e)
-          | inr k ↦
-              or_right (eqb w u) _
-              (walk_from (link? t x v) t.width (link_within t well x v) (walk_map (λ a b. (link_meant x v a b).1) k))
-        ])),
-  )
+  side_meant x v u =
+      Decides-like _ (λ r. (r.0, r.2)) (λ r. (r.0, dependent_within t well x v r.0 ((dependent_meant t x v r.0).1 r.1.0), r.1))
+      (some_below_decides (λ w. dependent? t x v w && (eqb w u || walk? (link? t x v) t.width w u)) (λ w. Dependent t x v w × Connected t x v w u)
+      (λ w. Decides-and _ _ (dependent_meant t x v w) (connected_meant x v w u)) t.width)
 
   -- a latch on a side is a latch of the task
   side_within : (x : Bool) (v u : ℕ) → Side t x v u → u < t.width
@@ -207,50 +149,23 @@ module _ (t : Task) (well : WellFormed t) where
       end (one {u = a} {v = b} r) = link_within t well x v a b ((link_meant x v a b).1 r)
       end (step r p) = end p
 
-  splitting_meant : (v : ℕ) → splitting? t v ≡ true ↔ Splitting t v
+  splitting_meant : (v : ℕ) → Decides (splitting? t v) (Splitting t v)
   unfolding splitting?
-  splitting_meant v = (
-    (λ h u a b.
-        both_ways _ (not-true _ (all_below_true (λ w. not (side? t false v w && side? t true v w)) t.width u h (side_within false v u a)))
-        (and_from (side? t false v u) _ ((side_meant false v u).1 a) ((side_meant true v u).1 b))),
-    λ h. all_below_from (λ w. not (side? t false v w && side? t true v w)) t.width
-        (λ u l. not_from_false _ (fails _ (λ q.
-        let p = and_parts (side? t false v u) _ q in
-        h u ((side_meant false v u).0 p.0) ((side_meant true v u).0 p.1)))),
-  )
+  splitting_meant v =
+      Decides-like _ (λ h u a b. h u (side_within false v u a) (a, b)) (λ h u l p. h u p.0 p.1)
+      (all_below_decides (λ u. not (side? t false v u && side? t true v u)) (λ u. Side t false v u × Side t true v u → ⊥)
+      (λ u. Decides-not _ (Decides-and _ _ (side_meant false v u) (side_meant true v u))) t.width)
 
-  acyclic_meant : acyclic? t ≡ true ↔ Acyclic t
+  acyclic_meant : Decides (acyclic? t) (Acyclic t)
   unfolding acyclic?
-  acyclic_meant = (
-    (λ h u p. acyclic t well h u (walk_map (λ a b. (edge_meant t a b).1) p)),
-    λ h. all_below_from (λ u. not (walk? (edge? t) t.width u u)) t.width
-        (λ u l. not_from_false _ (fails _ (λ q. h u (walk_map (λ a b. (edge_meant t a b).0) (walk_true (edge? t) t.width u u q))))),
-  )
+  acyclic_meant =
+      Decides-like _ (λ h u p. h u (walk_starts t well (walk_map (λ a b. (edge_meant t a b).1) p)) p) (λ h u l. h u)
+      (all_below_decides (λ u. not (walk? (edge? t) t.width u u)) (λ u. Walk (Edge t) u u → ⊥)
+      (λ u. Decides-not _ (walk_decides (edge? t) (Edge t) (edge_meant t) t.width (edge_ends t well) u u)) t.width)
 
 pub class_is_meant : ClassIsMeant
 unfolding in_class?
-class_is_meant t well = (
-  (λ h. (
-    (acyclic_meant t well).0 (class_acyclic t h),
-    λ v l.
-        elim (or_cases (static? t v) _ (class_each t h v l)) [
-          | inl a ↦ inl ((static_meant t v).0 a)
-          | inr b ↦
-              inr (elim (or_cases (reversible? t v) _ b)
-              [ inl c ↦ inl ((reversible_meant t well v).0 c) | inr d ↦ inr ((splitting_meant t well v).0 d) ])
-        ],
-  )),
-  λ c.
-      and_from (acyclic? t) _ ((acyclic_meant t well).1 c.0)
-      (all_below_from (λ v. static? t v || (reversible? t v || splitting? t v)) t.width
-      (λ v l.
-      elim (c.1 v l) [
-        | inl a ↦ or_left (static? t v) _ ((static_meant t v).1 a)
-        | inr b ↦
-            or_right (static? t v) _
-            (elim b [
-              | inl r ↦ or_left (reversible? t v) _ ((reversible_meant t well v).1 r)
-              | inr d ↦ or_right (reversible? t v) _ ((splitting_meant t well v).1 d)
-            ])
-      ])),
-)
+class_is_meant t well =
+    Decides-and _ _ (acyclic_meant t well)
+    (all_below_decides (λ v. static? t v || (reversible? t v || splitting? t v)) (λ v. Static t v ⊎ (Reversible t v ⊎ Splitting t v))
+    (λ v. Decides-or _ _ (static_meant t v) (Decides-or _ _ (reversible_meant t well v) (splitting_meant t well v))) t.width)

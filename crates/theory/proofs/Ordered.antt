@@ -2,7 +2,7 @@
 use Rattle.std.proofs.Common.{◌≡◌, ℕ, zero, suc, ◌<◌, ◌≤◌, true, false, not, ◌&&◌, ◌||◌, eqb, ◌≢◌, List, [], ◌∷◌, sym, refl, ap, subst, inl, inr, arith}
 use mathlib.Core.List.{reverse_aux}
 use mathlib.Core.Option.{Option, none, some}
-use Rattle.std.proofs.lemmas.Bool.{both_ways, cases_Bool, and_parts, and_from, or_parts, or_cases, not-true, not-false, not_from_false, not_from_true, eqb-true, eqb-false}
+use Rattle.std.proofs.lemmas.Bool.{both_ways, false_from_ne_true, true_from_ne_false, cases_Bool, and_parts, and_from, or_parts, or_cases, not-true, not-false, not_from_false, not_from_true, eqb-true, eqb-false}
 use Rattle.theory.specs.Searches.{In, has, all_below, lowest}
 use Rattle.theory.specs.Tasks.{Ask, any, at_zero, at_one, Move, Task, WellFormed, asked?}
 use Rattle.theory.specs.Class.{edge?, walk?, acyclic?}
@@ -105,8 +105,7 @@ module _ (t : Task) (well : WellFormed t) (no_cycle : acyclic? t ≡ true) where
       count_lt (λ w. walk? (edge? t) t.width w u) (λ w. walk? (edge? t) t.width w v) t.width u
       (λ w l p. edge_walk_from t well (walk_join (walk_true (edge? t) t.width w u p) (one h)))
       (edge_starts t well u v h)
-      (elim (cases_Bool (walk? (edge? t) t.width u u))
-      [ inl e ↦ absurd (acyclic t well no_cycle u (walk_true (edge? t) t.width u u e)) | inr e ↦ e ])
+      (false_from_ne_true _ (λ e. acyclic t well no_cycle u (walk_true (edge? t) t.width u u e)))
       (edge_walk_from t well (one h))
 
   -- while a latch is not placed, some latch can be placed next
@@ -142,12 +141,9 @@ module _ (t : Task) (well : WellFormed t) (no_cycle : acyclic? t ≡ true) where
       go none e ih =
           subst Done (sym (ap pick e)) (
             g,
-            λ v l. elim (cases_Bool (has placed v)) [
-              | inl a ↦ has_in placed v a
-              | inr a ↦
-                  let r = next_exists placed (suc (depth v)) v (omega arith) l a in
-                  absurd (both_ways _ (lowest_none (next? t placed) t.width r.0 e r.1) r.2)
-            ],
+            λ v l. has_in placed v (true_from_ne_false (has placed v) (λ a.
+                let r = next_exists placed (suc (depth v)) v (omega arith) l a in
+                both_ways _ (lowest_none (next? t placed) t.width r.0 e r.1) r.2)),
           )
       go (some v) e ih =
           let r = lowest_some (next? t placed) t.width v e in

@@ -1,8 +1,11 @@
 -- What the searches of specs/Searches say when they pass and when they fail.
-use Rattle.std.proofs.Common.{◌≡◌, ℕ, zero, suc, ◌<◌, Bool, true, false, cond, eqb, ◌⊎◌, List, [], ◌∷◌, sym, refl, ap, ◌∙◌, subst, inl, inr, arith}
+use Rattle.std.proofs.Common.{◌≡◌, Decides, ℕ, zero, suc, ◌<◌, Bool, true, false, cond, eqb, ◌⊎◌, List, [], ◌∷◌, sym, refl, ap, ◌∙◌, subst, inl, inr, arith}
 use mathlib.Core.Bool.{beq}
+use Rattle.std.proofs.Math.Bool.{and_comm, or_comm}
 use mathlib.Core.Option.{Option, none, some}
-use Rattle.std.proofs.lemmas.Bool.{both_ways, or_cases, or_left, or_right, and_parts, and_from, and_cases, cases_Bool, cases_order, eqb-true, eq-eqb}
+use Rattle.std.specs.Cmp.{booleans_Decides}
+use Rattle.std.proofs.lemmas.Bool.{both_ways, or_cases, or_left, or_right, and_parts, and_from, and_cases, cases_lt, false_from_ne_true, eqb-true, eq-eqb}
+use Rattle.std.proofs.lemmas.Bool.Decides.{Decides-below_and, Decides-below_or}
 use Rattle.theory.specs.Searches.{In, has, some_of, all_of, some_below, all_below, lowest, or_else}
 
 pub some_of_true : {A : Type 0} (test : A → Bool) (xs : List A) → some_of test xs ≡ true → (x : A) × In xs x × (test x ≡ true)
@@ -28,40 +31,41 @@ all_of_from test [] h = refl
 all_of_from test (y ∷ xs) h = and_from (test y) (all_of test xs) (h y (inl refl)) (all_of_from test xs (λ x i. h x (inr i)))
 
 pub below_cases : (u n : ℕ) → u < suc n → (u < n) ⊎ (u ≡ n)
-below_cases u n h = elim (cases_order u n) [ inl e ↦ inr e | inr o ↦ elim o [ inl l ↦ inl l | inr g ↦ absurd (omega arith) ] ]
+below_cases u n h = elim (cases_lt u n) [ inl l ↦ inl l | inr g ↦ inr (omega arith) ]
+
+-- a search decides of elements what its test decides of one
+module _ {A : Type 0} (test : A → Bool) (P : A → Type 0) (each : (x : A) → Decides (test x) (P x)) where
+  pub some_of_decides : (xs : List A) → Decides (some_of test xs) ((x : A) × In xs x × P x)
+  some_of_decides xs = (
+    (λ h. let r = some_of_true test xs h in (r.0, r.1, (each r.0).0 r.2)),
+    λ r. some_of_from test xs r.0 r.1 ((each r.0).1 r.2),
+  )
+
+module _ (test : ℕ → Bool) (P : ℕ → Type 0) (each : (u : ℕ) → Decides (test u) (P u)) where
+  pub some_below_decides : (n : ℕ) → Decides (some_below test n) ((u : ℕ) × (u < n) × P u)
+  some_below_decides = Decides-below_or test P (some_below test) each refl (λ n. or_comm (some_below test n) (test n))
+
+  pub all_below_decides : (n : ℕ) → Decides (all_below test n) ((u : ℕ) → u < n → P u)
+  all_below_decides = Decides-below_and test P (all_below test) each refl (λ n. and_comm (all_below test n) (test n))
+
+-- a test decides whether it passes
+passes : (test : ℕ → Bool) (u : ℕ) → Decides (test u) (test u ≡ true)
+passes test u = (λ e. e, λ e. e)
 
 pub some_below_true : (test : ℕ → Bool) (n : ℕ) → some_below test n ≡ true → (u : ℕ) × (u < n) × (test u ≡ true)
-some_below_true test zero h = absurd (both_ways false refl h)
-some_below_true test (suc n) h =
-    elim (or_cases (some_below test n) (test n) h) [
-      | inl a ↦ let r = some_below_true test n a in (r.0, omega (arith, r.1), r.2)
-      | inr b ↦ (n, omega arith, b)
-    ]
+some_below_true test n = (some_below_decides test _ (passes test) n).0
 
 pub some_below_from : (test : ℕ → Bool) (n u : ℕ) → u < n → test u ≡ true → some_below test n ≡ true
-some_below_from test zero u l p = absurd (omega arith)
-some_below_from test (suc n) u l p =
-    elim (below_cases u n l) [
-      | inl a ↦ or_left (some_below test n) (test n) (some_below_from test n u a p)
-      | inr e ↦ or_right (some_below test n) (test n) (sym (ap test e) ∙ p)
-    ]
+some_below_from test n u l p = (some_below_decides test _ (passes test) n).1 (u, l, p)
 
 pub some_below_false : (test : ℕ → Bool) (n u : ℕ) → some_below test n ≡ false → u < n → test u ≡ false
-some_below_false test n u h l =
-    elim (cases_Bool (test u)) [ inl e ↦ absurd (both_ways (some_below test n) h (some_below_from test n u l e)) | inr e ↦ e ]
+some_below_false test n u h l = false_from_ne_true (test u) (λ e. both_ways (some_below test n) h (some_below_from test n u l e))
 
 pub all_below_true : (test : ℕ → Bool) (n u : ℕ) → all_below test n ≡ true → u < n → test u ≡ true
-all_below_true test zero u h l = absurd (omega arith)
-all_below_true test (suc n) u h l =
-    elim (below_cases u n l) [
-      | inl a ↦ all_below_true test n u (and_parts (all_below test n) (test n) h).0 a
-      | inr e ↦ ap test e ∙ (and_parts (all_below test n) (test n) h).1
-    ]
+all_below_true test n u h l = (all_below_decides test _ (passes test) n).0 h u l
 
 pub all_below_from : (test : ℕ → Bool) (n : ℕ) → ((u : ℕ) → u < n → test u ≡ true) → all_below test n ≡ true
-all_below_from test zero h = refl
-all_below_from test (suc n) h =
-    and_from (all_below test n) (test n) (all_below_from test n (λ u l. h u (omega arith))) (h n (omega arith))
+all_below_from test n = (all_below_decides test _ (passes test) n).1
 
 pub all_below_false : (test : ℕ → Bool) (n : ℕ) → all_below test n ≡ false → (u : ℕ) × (u < n) × (test u ≡ false)
 all_below_false test zero h = absurd (both_ways true h refl)
@@ -72,7 +76,7 @@ all_below_false test (suc n) h =
     ]
 
 pub none≢some : {A : Type 0} {x : A} → none ≡ some x → ⊥
-none≢some {A} {x} e = let F : Option A → Type 0 = elim [ none ↦ Unit {0} | some y ↦ ⊥ ] in subst F e tt
+none≢some e = cc
 
 -- the lowest number that passes
 pub lowest_some : (test : ℕ → Bool) (n u : ℕ) → lowest test n ≡ some u → (u < n) × (test u ≡ true)
@@ -98,22 +102,13 @@ lowest_none test (suc n) u h l = go (lowest test n) refl (test n) refl (λ k j. 
 
 -- `has` decides `In`
 pub has_in : (xs : List ℕ) (u : ℕ) → has xs u ≡ true → In xs u
-has_in [] u h = absurd (both_ways false refl h)
-has_in (v ∷ xs) u h = elim (or_cases (eqb v u) (has xs u) h) [ inl a ↦ inl (eqb-true v u a) | inr b ↦ inr (has_in xs u b) ]
+has_in xs u h = let r = some_of_true (λ v. eqb v u) xs h in subst (In xs) (eqb-true r.0 u r.2) r.1
 
 pub in_has : (xs : List ℕ) (u : ℕ) → In xs u → has xs u ≡ true
-in_has [] u i = absurd i
-in_has (v ∷ xs) u (inl e) = or_left (eqb v u) (has xs u) (eq-eqb v u e)
-in_has (v ∷ xs) u (inr i) = or_right (eqb v u) (has xs u) (in_has xs u i)
+in_has xs u i = some_of_from (λ v. eqb v u) xs u i (eq-eqb u u refl)
 
 pub beq_true : (a b : Bool) → beq a b ≡ true → a ≡ b
-beq_true true true h = refl
-beq_true true false h = absurd (both_ways false refl h)
-beq_true false true h = absurd (both_ways false refl h)
-beq_true false false h = refl
+beq_true a b = (booleans_Decides a b).0
 
 pub beq_from : (a b : Bool) → a ≡ b → beq a b ≡ true
-beq_from true true h = refl
-beq_from true false h = absurd (both_ways true (h) refl)
-beq_from false true h = absurd (both_ways true (sym h) refl)
-beq_from false false h = refl
+beq_from a b = (booleans_Decides a b).1

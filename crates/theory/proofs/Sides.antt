@@ -1,6 +1,7 @@
 -- The two sides of a latch: closed under edges that do not come from it.
 use Rattle.std.proofs.Common.{◌≡◌, ℕ, ◌<◌, Bool, true, false, not, ◌&&◌, ◌||◌, eqb, ◌≢◌, sym, refl, ◌∙◌, subst, inl, inr}
-use Rattle.std.proofs.lemmas.Bool.{both_ways, cases_Bool, and_parts, and_from, and_left, or_left, or_right, or_cases, not-true, not_from_false, eqb-true, eq-eqb, ne_eqb}
+use Rattle.std.proofs.lemmas.Bool.{both_ways, false_from_ne_true, and_parts, and_from, and_left, or_left, or_right, or_cases, not-true, not_from_false, eqb-true, eq-eqb, ne_eqb}
+use Rattle.std.proofs.lemmas.Bool.Decides.{same_from_decides}
 use Rattle.theory.specs.Searches.{In}
 use Rattle.theory.specs.Tasks.{Ask, any, at_zero, at_one, Move, Task, WellFormed, asked?, asks?}
 use Rattle.theory.specs.Class.{edge?, walk?, dependent?, cut?, link?, side?, splitting?}
@@ -10,9 +11,7 @@ use Rattle.theory.proofs.Walks.{walk_join, walk_true, walk_from}
 use Rattle.theory.proofs.Ordered.{Arrow, edge_starts, edge_ends}
 
 pub bool_ext : (a b : Bool) → (a ≡ true → b ≡ true) → (b ≡ true → a ≡ true) → a ≡ b
-bool_ext true b f g = sym (f refl)
-bool_ext false true f g = g refl
-bool_ext false false f g = refl
+bool_ext a b f g = same_from_decides a b (f, g) (λ e. e, λ e. e)
 
 pub asks_asked : (x : Bool) (a : Ask) → asks? x a ≡ true → asked? a ≡ true
 asks_asked x any h = h
@@ -87,10 +86,6 @@ module _ (t : Task) (well : WellFormed t) where
 pub sides_apart : (t : Task) (v u : ℕ) → splitting? t v ≡ true → u < t.width → side? t false v u ≡ true → side? t true v u ≡ false
 unfolding splitting?
 sides_apart t v u h l a =
-    elim (cases_Bool (side? t true v u)) [
-      | inl b ↦
-          absurd
-          (both_ways _ (not-true _ (all_below_true (λ w. not (side? t false v w && side? t true v w)) t.width u h l))
-          (and_from (side? t false v u) _ a b))
-      | inr b ↦ b
-    ]
+    false_from_ne_true (side? t true v u)
+    (λ b. both_ways _ (not-true _ (all_below_true (λ w. not (side? t false v w && side? t true v w)) t.width u h l))
+    (and_from (side? t false v u) _ a b))

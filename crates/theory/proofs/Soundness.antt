@@ -1,6 +1,6 @@
 -- The route of a task in the class is legal to its end, where every latch stands as wanted.
 use Rattle.std.proofs.Common.{◌≡◌, ℕ, ◌<◌, ◌≤◌, true, false, not, ◌&&◌, ◌||◌, [], sym, refl, ap, ◌∙◌, subst, inl, inr, arith}
-use Rattle.std.proofs.lemmas.Bool.{both_ways, cases_Bool, cases_lt, and_parts, and_from, not_from_false}
+use Rattle.std.proofs.lemmas.Bool.{both_ways, true_from_ne_false, cases_lt, and_parts, and_from, not_from_false}
 use Rattle.theory.specs.Searches.{In}
 use Rattle.theory.specs.Tasks.{Ask, any, at_zero, at_one, Task, WellFormed, Setting, all_zero, Met, Run, Meets, asks?}
 use Rattle.theory.specs.Class.{acyclic?, static?, reversible?, splitting?, in_class?}
@@ -46,13 +46,9 @@ route_does t well class way =
     let done = set_route_does t well (kept_table t)
     (λ v l. recipe_does t well (kept_reset t (class_each t class)) (latest_first t) good v (placed v l))
     (λ v l a.
-    elim (cases_Bool (kept? true (kept_table t v))) [
-      | inl k ↦ k
-      | inr k ↦
-          absurd
-          (both_ways _ (some_below_false (λ u. asks? true (t.want u) && not (kept? true (kept_table t u))) t.width v way l)
-          (and_from (asks? true (t.want v)) _ a (not_from_false _ k)))
-    ])
+    true_from_ne_false (kept? true (kept_table t v))
+    (λ k. both_ways _ (some_below_false (λ u. asks? true (t.want u) && not (kept? true (kept_table t u))) t.width v way l)
+    (and_from (asks? true (t.want v)) _ a (not_from_false _ k))))
     (λ v l a k. kept_back t (latest_first t) good v (placed v l) a k)
     (order t) [] tt (order_along t well no_cycle) (λ v. true) all_zero
     (λ u i w. refl)

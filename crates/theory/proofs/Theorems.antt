@@ -1,6 +1,6 @@
 -- The theorems, from their parts.
-use Rattle.std.proofs.Common.{◌≡◌, true, false, ◌↔◌, ℕ, ◌-◌, ◌^◌, ◌<◌, ◌≤◌, refl, inl, inr, arith}
-use Rattle.std.proofs.lemmas.Bool.{cases_Bool}
+use Rattle.std.proofs.Common.{◌≡◌, true, false, ◌↔◌, ℕ, ◌-◌, ◌^◌, ◌<◌, ◌≤◌, refl, arith}
+use Rattle.std.proofs.lemmas.Bool.{true_from_ne_false}
 use Rattle.theory.specs.Tasks.{Task, WellFormed, Setting, all_zero, Run, Meets, Way}
 use Rattle.theory.specs.Meaning.{InClass}
 use Rattle.theory.specs.Bound.{longest}
@@ -18,7 +18,7 @@ route_does_errand t well class = route_does t well ((class_is_meant t well).1 cl
 pub no_way_is_right : NoWayIsRight
 no_way_is_right t well class = (
   no_way_sound t well (class_acyclic t ((class_is_meant t well).1 class)),
-  λ none. elim (cases_Bool (no_way? t)) [ inl h ↦ h | inr h ↦ absurd (none (route t, route_does_errand t well class h)) ],
+  λ none. true_from_ne_false (no_way? t) (λ h. none (route t, route_does_errand t well class h)),
 )
 
 -- both, of a task in the class

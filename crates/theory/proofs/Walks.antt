@@ -1,5 +1,5 @@
 -- The test of Warshall and the walks that it stands for.
-use Rattle.std.proofs.Common.{◌≡◌, ℕ, zero, suc, ◌<◌, Bool, true, ◌&&◌, ◌⊎◌, subst, inl, inr, arith}
+use Rattle.std.proofs.Common.{◌≡◌, Decides, ℕ, zero, suc, ◌<◌, Bool, true, ◌&&◌, ◌⊎◌, subst, inl, inr, arith}
 use Rattle.std.proofs.lemmas.Bool.{or_cases, or_left, or_right, and_parts, and_from}
 use Rattle.theory.specs.Class.{walk?}
 use Rattle.graph.specs.Walks.{Walk, one, step}
@@ -81,3 +81,11 @@ module _ (e : ℕ → ℕ → Bool) where
   walk_from n within (one {u = u} {v = v} r) = walk_test_edge n u v r
   walk_from n within (step {u = u} {w = w} {v = v} r p) =
       walk_test_through n w u v (within u w r) (walk_test_edge n u w r) (walk_from n within p)
+
+  -- so the test decides walks, of a relation that it decides of
+  pub walk_decides : (E : ℕ → ℕ → Type 0) → ((a b : ℕ) → Decides (e a b) (E a b)) → (n : ℕ) → ((a b : ℕ) → e a b ≡ true → b < n) →
+      (u v : ℕ) → Decides (walk? e n u v) (Walk E u v)
+  walk_decides E each n within u v = (
+    (λ h. walk_map (λ a b. (each a b).0) (walk_true n u v h)),
+    λ p. walk_from n within (walk_map (λ a b. (each a b).1) p),
+  )

@@ -6,6 +6,7 @@
 --   or_else a b            a if it is an answer, else b
 --   lowest test n          the lowest number below n that passes
 use Rattle.std.specs.Prelude.{◌≡◌, ℕ, zero, suc, Bool, true, false, cond, ◌&&◌, ◌||◌, ◌⊎◌, List, [], ◌∷◌, nat_eq}
+use Rattle.std.specs.List.{list_any, list_all}
 use Rattle.std.proofs.Math.Option.{Option, none, some}
 
 -- x is an element of the list
@@ -15,13 +16,11 @@ In (y ∷ ys) x = (y ≡ x) ⊎ In ys x
 
 -- some element passes
 abbrev pub some_of : {A : Type 0} → (A → Bool) → List A → Bool
-some_of test [] = false
-some_of test (x ∷ xs) = test x || some_of test xs
+some_of test xs = list_any test xs
 
 -- each element passes
 abbrev pub all_of : {A : Type 0} → (A → Bool) → List A → Bool
-all_of test [] = true
-all_of test (x ∷ xs) = test x && all_of test xs
+all_of test xs = list_all test xs
 
 -- u is an element, as a test
 abbrev pub has : List ℕ → ℕ → Bool
