@@ -11,14 +11,6 @@ use crate::edges::is_asked;
 use crate::task::{NormalMove, NormalTask};
 use book::PartialSetting;
 
-/// Whether two partial settings ask the same of every latch but one.
-fn is_same_but(latch: u8, p: PartialSetting, q: PartialSetting) -> bool
-    ensures { Decides result ((u : ℕ) → (u == latch || same_ask? (asks_of p u) (asks_of q u)) ≡ true) }
-{
-    p.named.without(latch) == q.named.without(latch)
-        && p.ones.without(latch) == q.ones.without(latch)
-}
-
 impl NormalMove {
     /// Whether `other` is the reverse of this move, in every task with room for both.
     fn is_reversed_by(&self, other: &NormalMove) -> bool
@@ -27,7 +19,7 @@ impl NormalMove {
     {
         other.latch == self.latch
             && other.to != self.to
-            && is_same_but(self.latch, other.asks, self.asks)
+            && other.asks.without(self.latch) == self.asks.without(self.latch)
     }
 }
 

@@ -11,7 +11,8 @@ returns-then-other-self-2 c t a b =
     let o = c.args.other.now in
     elim c.if-other-self.branch [
       | then-other-self w ↦
-          reverse_when t m.latch m o c.is_same_but.result a b w.if-other-self.true
-          (not-true (beq o.to m.to) (sym w.value-is ∙ c.if-other-self-2.true)) c.is_same_but.ensures
+          c.eq.ensures
+          ∙ reverse_when t m o c.without.result c.without-then-other-self-2.result a b w.if-other-self.true
+          (not-true (beq o.to m.to) (sym w.value-is ∙ c.if-other-self-2.true)) c.without.ensures c.without-then-other-self-2.ensures
       | else-other-self w ↦ absurd (w.if-other-self.false (eqb-true _ _ (sym w.value-is ∙ c.if-other-self-2.true)))
     ]
