@@ -5,7 +5,7 @@ ghost use Rattle.words.specs.Sets.{has};
 use words::LatchSet;
 
 /// Positions of some latches: those in `named`, of which those in `ones` are to be at 1 and the others at 0.
-#[derive(Clone, Copy)]
+#[derive(Clone, Copy, PartialEq, Eq)]
 pub struct PartialSetting {
     pub named: LatchSet,
     pub ones: LatchSet,

@@ -9,8 +9,9 @@ use Rattle.tasks.proofs.task.NormalTask.has_reverse.Goals as goal
 pub returns : goal.returns
 returns c below =
     let t = c.args.self.now in
-    some_move t (reverse? (task_of t) c.args.latch (move_of c.args.m)) (cc)
+    let m = c.args.m.now in
+    some_move t (reverse? (task_of t) m.latch (move_of m)) (cc)
     (λ x b q k.
-    let told : (t : Task) → Below t.width c.args.m.asks.named → Below t.width x.now.asks.named → b ≡ reverse? t c.args.latch (move_of c.args.m) (move_of x.now) = search rules in
+    let told : (t : Task) → Below t.width m.asks.named → Below t.width x.now.asks.named → b ≡ reverse? t m.latch (move_of m) (move_of x.now) = search rules in
     (search rules, λ i. told (task_of t) below (asks_below t x.now i)))
     c.any.ensures.ran
