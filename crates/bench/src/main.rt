@@ -30,9 +30,7 @@ fn run(rt: &HostRuntime) -> anyhow::Result<()> {
 
 /// The bytes of the file that is named, or of standard input if none is.
 fn input(rt: &HostRuntime) -> anyhow::Result<Vec<u8>> {
-    let mut words = env::args(rt)?;
-    let _program = words.next();
-    if let Some(path) = words.next() {
+    if let Some(path) = env::args(rt)?.nth(1) {
         return Ok(fs::read(rt, path.as_str())?);
     }
     let mut text = Vec::new(rt.alloc());

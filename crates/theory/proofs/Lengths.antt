@@ -7,6 +7,7 @@ use Rattle.theory.specs.Tasks.{Move, Task, asks?}
 use Rattle.theory.specs.Class.{side?, splitting?}
 use Rattle.theory.specs.Recipes.{Recipe, Table, kept?, moves_to, helper?, recipe_parts, opened, table_of}
 use Rattle.theory.specs.Route.{on_side, on_neither, set_route}
+use Rattle.theory.proofs.Searches.{apart_from}
 use Rattle.theory.proofs.Ordered.{Behind, Along, WellPlaced, Next}
 use Rattle.theory.proofs.Sides.{sides_apart}
 use Rattle.theory.proofs.Tables.{kept_move, table_tail}
@@ -82,7 +83,7 @@ recipe_short t (v ∷ placed) g = (head (recipe_short t placed g.1), tail (recip
     tail b =
         behind_map (Short t (table_of t placed)) (Short t (table_of t (v ∷ placed))) placed
         (λ before u i q y.
-        subst (λ k. length (moves_to y k) ≤ 3 ^ plain_count t before) (sym (table_tail t placed v u (λ d. g.0.1 (subst (In placed) (sym d) i)))) (q y)) b
+        subst (λ k. length (moves_to y k) ≤ 3 ^ plain_count t before) (sym (table_tail t placed v u (apart_from placed g.0.1 i))) (q y)) b
 
 -- what a latch adds to a route at most: a splitting latch two recipes, another one
 abbrev pub share : Bool → Bool → ℕ → ℕ

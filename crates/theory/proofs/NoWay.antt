@@ -8,7 +8,7 @@ use Rattle.theory.specs.Class.{acyclic?}
 use Rattle.theory.specs.Order.{latest_first}
 use Rattle.theory.specs.Recipes.{Recipe, kept?, recipe, table_of}
 use Rattle.theory.specs.Route.{kept_table, no_way?}
-use Rattle.theory.proofs.Searches.{some_below_true}
+use Rattle.theory.proofs.Searches.{some_below_true, apart_from}
 use Rattle.theory.proofs.Ordered.{WellPlaced, Next, latest_well_placed, latest_all}
 use Rattle.theory.proofs.Sides.{asks_asked, edge_made}
 use Rattle.theory.proofs.Running.{put_same, put_other}
@@ -114,7 +114,7 @@ module _ (t : Task) (ms : List Move) (e : Setting) (run : Run t ms all_zero e) (
   kept_all (v ∷ placed) g u (inl d) h =
       subst (λ z. Ever ms all_zero z → kept? true (table_of t (v ∷ placed) z) ≡ true) d (kept_head placed v g.0 (λ w j. kept_all placed g.1 w j)) h
   kept_all (v ∷ placed) g u (inr i) h =
-      ap (kept? true) (table_tail t placed v u (λ d. g.0.1 (subst (In placed) (sym d) i))) ∙ kept_all placed g.1 u i h
+      ap (kept? true) (table_tail t placed v u (apart_from placed g.0.1 i)) ∙ kept_all placed g.1 u i h
 
 -- acyclicity is all that is used of the class
 pub no_way_sound : (t : Task) → WellFormed t → acyclic? t ≡ true → no_way? t ≡ true → Way t → ⊥

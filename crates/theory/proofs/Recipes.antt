@@ -6,6 +6,7 @@ use Rattle.theory.specs.Tasks.{Ask, any, at_zero, at_one, Move, Task, WellFormed
 use Rattle.theory.specs.Class.{edge?, side?, splitting?}
 use Rattle.graph.specs.Walks.{Walk, one}
 use Rattle.theory.specs.Recipes.{Recipe, Table, kept?, moves_to, serves?, helper?, recipe_parts, opened, table_of}
+use Rattle.theory.proofs.Searches.{apart_from}
 use Rattle.theory.proofs.Walks.{walk_join}
 use Rattle.theory.proofs.Ordered.{Arrow, WellPlaced, before_walk, before_next}
 use Rattle.theory.proofs.Sides.{asks_asked, edge_made, dependent_made, dependent_side, edge_same_side, sides_apart}
@@ -135,8 +136,8 @@ module _ (t : Task) (well : WellFormed t) (table : Table) (v : ℕ) (x : Bool) (
           let apart : (w : ℕ) → Walk (Arrow t) w u → In us w × (u ≢ w) × (v ≢ w) =
           λ w p. (
             before_next t us g.1 g.0 p,
-            (λ d. g.0.1 (subst (In us) (sym d) (before_next t us g.1 g.0 p))),
-            (λ d. new (inr (subst (In us) (sym d) (before_next t us g.1 g.0 p)))),
+            apart_from us g.0.1 (before_next t us g.1 g.0 p),
+            apart_from us (λ i. new (inr i)) (before_next t us g.1 g.0 p),
           ) in
           let ready : Ready t table s u =
           λ w p. before w (inr (apart w p).0) (walk_join p (one edge))
@@ -144,7 +145,7 @@ module _ (t : Task) (well : WellFormed t) (table : Table) (v : ℕ) (x : Bool) (
           let raise = works u (inl refl) true up s ready low in
           let own₁ : s₁ v ≡ not x = put_other s u true v r.0 ∙ own in
           let inner = ih s₁ own₁
-          (λ w i p. put_other s u true w (λ d. g.0.1 (subst (In us) (sym d) i)) ∙ before w (inr i) p)
+          (λ w i p. put_other s u true w (apart_from us g.0.1 i) ∙ before w (inr i) p)
           (λ w i a.
           elim (cases_eq u w) [
             | inl d ↦ put_same s u true w d ∙ sym (or_left (helper? t v m w) _ (sym (ap (helper? t v m) d) ∙ e))
@@ -166,7 +167,7 @@ module _ (t : Task) (well : WellFormed t)
   -- a larger table is the same for the ancestors of what was placed before
   recipe_does_tail : (placed : List ℕ) (v : ℕ) → WellPlaced t (v ∷ placed) → (u : ℕ) → In placed u → Works t (table_of t placed) u → Works t (table_of t (v ∷ placed)) u
   recipe_does_tail placed v g u i works y k s ready own =
-      let apart : (w : ℕ) → In placed w → v ≢ w = λ w j d. g.0.1 (subst (In placed) (sym d) j) in
+      let apart : (w : ℕ) → In placed w → v ≢ w = λ w j. apart_from placed g.0.1 j in
       let same : table_of t (v ∷ placed) u ≡ table_of t placed u = table_tail t placed v u (apart u i) in
       run_as t (moves_to y (table_of t placed u)) _ s (put s u y) (sym (ap (moves_to y) same))
       (works y (sym (ap (kept? y) same) ∙ k) s
@@ -179,7 +180,7 @@ module _ (t : Task) (well : WellFormed t)
       let made = kept_move t placed v y k in
       let due_now : (w : ℕ) → Walk (Arrow t) w v → s w ≡ due t (table_of t placed) w v =
       λ w p. ready w p ∙ ap (λ e. splitting? t w && (side? t true w v && kept? true e))
-      (table_tail t placed v w (λ d. g.0.1 (subst (In placed) (sym d) (before_next t placed g.1 g.0 p)))) in
+      (table_tail t placed v w (apart_from placed g.0.1 (before_next t placed g.1 g.0 p))) in
       run_as t _ _ s (put s v y) (ap (λ (r : Recipe). r.moves) made.3)
       (parts_run t well (table_of t placed) v y made.0 made.1 made.2 g.0.0 placed g.1 g.0.1
       all (reset placed g.1) s own (λ w i p. due_now w p) (λ w n a. absurd (n (g.0.2 w a))))

@@ -7,6 +7,7 @@ use Rattle.theory.specs.Class.{side?, splitting?}
 use Rattle.graph.specs.Walks.{Walk}
 use Rattle.theory.specs.Recipes.{Table, kept?, moves_to}
 use Rattle.theory.specs.Route.{on_side, on_neither, set_route}
+use Rattle.theory.proofs.Searches.{apart_from}
 use Rattle.theory.proofs.Ordered.{Arrow, WellPlaced, Next, Along, before_next}
 use Rattle.theory.proofs.Sides.{walk_same_side, sides_apart}
 use Rattle.theory.proofs.Running.{put_same, put_other, run_join, run_as}
@@ -71,7 +72,7 @@ module _ (t : Task) (well : WellFormed t) (table : Table)
     early : (a : ℕ) → Walk (Arrow t) a v → (In rest a → ⊥) × (v ≢ a)
     early a p =
         let j = before_next t before good fit p in
-        ((λ i. along_new t (v ∷ before) rest ahead a i (inr j)), λ d. fit.1 (subst (In before) (sym d) j))
+        ((λ i. along_new t (v ∷ before) rest ahead a i (inr j)), apart_from before fit.1 j)
 
     -- so it stands as it is due as long as only v and latches behind it have changed
     ready_at : (e : Setting) → ((a : ℕ) → v ≢ a → (In rest a → ⊥) → e a ≡ s a) → Ready t table e v

@@ -1,5 +1,5 @@
 -- What the searches of specs/Searches say when they pass and when they fail.
-use Rattle.std.proofs.Common.{◌≡◌, Decides, ℕ, zero, suc, ◌<◌, Bool, true, false, cond, eqb, ◌⊎◌, List, [], ◌∷◌, sym, refl, ap, ◌∙◌, subst, inl, inr, arith}
+use Rattle.std.proofs.Common.{◌≡◌, ◌≢◌, Decides, ℕ, zero, suc, ◌<◌, Bool, true, false, cond, eqb, ◌⊎◌, List, [], ◌∷◌, sym, refl, ap, ◌∙◌, subst, inl, inr, arith}
 use mathlib.Core.Bool.{beq}
 use Rattle.std.proofs.Math.Bool.{and_comm, or_comm}
 use mathlib.Core.Option.{Option, none, some}
@@ -7,6 +7,10 @@ use Rattle.std.specs.Cmp.{booleans_Decides}
 use Rattle.std.proofs.lemmas.Bool.{both_ways, or_cases, or_left, or_right, and_parts, and_from, and_cases, cases_lt, false_from_ne_true, eqb-true, eq-eqb}
 use Rattle.std.proofs.lemmas.Bool.Decides.{Decides-below_and, Decides-below_or}
 use Rattle.theory.specs.Searches.{In, has, some_of, all_of, some_below, all_below, lowest, or_else}
+
+-- an element is another one than what the list lacks
+pub apart_from : {A : Type 0} {v u : A} (xs : List A) → (In xs v → ⊥) → In xs u → v ≢ u
+apart_from xs out i d = out (subst (In xs) (sym d) i)
 
 pub some_of_true : {A : Type 0} (test : A → Bool) (xs : List A) → some_of test xs ≡ true → (x : A) × In xs x × (test x ≡ true)
 some_of_true test [] h = absurd (both_ways false refl h)

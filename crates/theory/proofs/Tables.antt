@@ -7,7 +7,7 @@ use Rattle.theory.specs.Searches.{In, some_of}
 use Rattle.theory.specs.Tasks.{Ask, any, at_zero, at_one, Move, Task, asks?}
 use Rattle.theory.specs.Class.{thrown?, static?, same_ask?, reverse?, reversible?, splitting?}
 use Rattle.theory.specs.Recipes.{Recipe, Kept, none_kept, one_kept, kept?, recipe_to, Table, recipe_with, serves?, recipe_parts, recipe, keep, table_of}
-use Rattle.theory.proofs.Searches.{some_of_true, some_of_from, all_of_true, all_below_true, all_below_from, none≢some, beq_true, beq_from}
+use Rattle.theory.proofs.Searches.{some_of_true, some_of_from, all_of_true, all_below_true, all_below_from, none≢some, beq_true, beq_from, apart_from}
 use Rattle.theory.proofs.Ordered.{WellPlaced, Next}
 use Rattle.theory.proofs.Choosing.{recipe_made, recipe_from}
 
@@ -102,7 +102,7 @@ pub table_each : (t : Task) (Q : ℕ → Kept → Type 0) →
 table_each t Q h [] g u i = absurd i
 table_each t Q h (v ∷ placed) g u (inl e) = subst (λ z. Q z (table_of t (v ∷ placed) z)) e (h placed v g.1 g.0)
 table_each t Q h (v ∷ placed) g u (inr i) =
-    subst (Q u) (sym (table_tail t placed v u (λ e. g.0.1 (subst (In placed) (sym e) i)))) (table_each t Q h placed g.1 u i)
+    subst (Q u) (sym (table_tail t placed v u (apart_from placed g.0.1 i))) (table_each t Q h placed g.1 u i)
 
 -- the same of the whole table
 pub kept_back : (t : Task) (placed : List ℕ) → WellPlaced t placed → (u : ℕ) → In placed u → asks? false (t.want u) ≡ true →
