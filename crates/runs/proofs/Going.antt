@@ -76,8 +76,7 @@ module _ (r : Rules) (s : Setting) (ks : List ℕ) (i : ℕ) (w : Errand) (start
     finds = tt;
     throws = throws_next;
     finishes = λ e. record {
-      number = next_move;
-      left = length ks - (i + 1);
+      thrown = record { number = next_move; left = length ks - (i + 1) };
       answered = refl;
       next = sym (ap (λ js. get_elem? js n) way.of_route) ∙ sym (ap (get_elem? ks) way.counted) ∙ element_there ks i 0 way.more;
       counted = omega (arith, way.more, way.counted) ∙ ap length way.of_route;
@@ -91,7 +90,7 @@ module _ (r : Rules) (s : Setting) (ks : List ℕ) (i : ℕ) (w : Errand) (start
     refuses = tt;
   }
 
-  pub follows_step : (left : ℕ) → length ks - (i + 1) ≡ left → Follows r next_setting (going_on ks (i + 1) left) (follow_step (Threw next_move left) (under_way w start n))
+  pub follows_step : (left : ℕ) → length ks - (i + 1) ≡ left → Follows r next_setting (going_on ks (i + 1) left) (follow_step (Threw (record { number = next_move; left = left })) (under_way w start n))
   follows_step zero e = tt
   follows_step (suc left) e = record {
     of_route = way.of_route;

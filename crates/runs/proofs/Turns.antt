@@ -21,7 +21,7 @@ kind Stop = 3
 -- numbers that tell answers apart
 abbrev pub code : Answer → ℕ
 code (Found n) = 0
-code (Threw k left) = 1
+code (Threw t) = 1
 code Done = 2
 code (Declined why) = refusal_number why
 

@@ -25,6 +25,7 @@ use Rattle.rules.specs.Naming.{errand_of, Names}
 use Rattle.runs.specs.declared.Call.TheVariants.{Aim, Step, Nudge, Stop}
 use Rattle.runs.specs.declared.Answer.{Answer}
 use Rattle.runs.specs.declared.Answer.TheVariants.{Found, Threw, Done, Declined}
+use Rattle.runs.specs.declared.Thrown.{Thrown}
 use Rattle.runs.specs.Calls.{Seen, Turn, idle, under_way, follow}
 
 -- no way is answered exactly when there is none, and otherwise the length of the route
@@ -47,7 +48,7 @@ Throwing r turn x =
       | Stop ↦ x.after ≡ x.before
       | Step ↦
           elim x.answer [
-            | Threw k left ↦ Throws r k x.before x.after
+            | Threw t ↦ Throws r t.number x.before x.after
             | Found n ↦ ⊥
             | Done ↦ ⊥
             | Declined why ↦ x.after ≡ x.before
@@ -56,19 +57,18 @@ Throwing r turn x =
           elim x.answer [
             | Done ↦ Throws r k x.before x.after
             | Found n ↦ ⊥
-            | Threw j left ↦ ⊥
+            | Threw t ↦ ⊥
             | Declined why ↦ x.after ≡ x.before
           ]
     ]
 
 -- the route's move at place i is thrown, what is left is counted, and with none left the errand is met
 pub record GoesOn (r : Rules) (w : Errand) (s : Setting) (i : ℕ) (x : Seen) : Type 0 where
-  pub number : ℕ
-  pub left : ℕ
-  pub answered : x.answer ≡ Threw number left
-  pub next : get_elem? (route r s w) i ≡ some number
-  pub counted : left + (i + 1) ≡ length (route r s w)
-  pub finished : left ≡ 0 → MetBy w x.after
+  pub thrown : Thrown
+  pub answered : x.answer ≡ Threw thrown
+  pub next : get_elem? (route r s w) i ≡ some thrown.number
+  pub counted : thrown.left + (i + 1) ≡ length (route r s w)
+  pub finished : thrown.left ≡ 0 → MetBy w x.after
 
 -- a route of no moves finds the errand met
 abbrev pub Finishes : Rules → Turn → Seen → Type 0

@@ -55,7 +55,7 @@ answered_resting r s Stop = Declined Idle
 -- the answer while running
 abbrev pub answered_running : List ℕ → ℕ → Call → Answer
 answered_running ks i (Aim named wanted) = Declined Running
-answered_running ks i Step = Threw (slice_index ks i) (length ks - (i + 1))
+answered_running ks i Step = Threw (record { number = slice_index ks i; left = length ks - (i + 1) })
 answered_running ks i (Nudge k) = Declined Running
 answered_running ks i Stop = Done
 
@@ -75,7 +75,7 @@ thrown_by (some m) s = thrown s m
 
 -- a step throws the move of its answer
 abbrev pub stepped : Rules → Setting → Answer → Setting
-stepped r s (Threw k left) = thrown_by (get_elem? r.moves k) s
+stepped r s (Threw t) = thrown_by (get_elem? r.moves t.number) s
 stepped r s (Found n) = s
 stepped r s Done = s
 stepped r s (Declined why) = s
@@ -84,7 +84,7 @@ stepped r s (Declined why) = s
 abbrev pub pushed : Rules → Setting → ℕ → Answer → Setting
 pushed r s k Done = thrown_by (get_elem? r.moves k) s
 pushed r s k (Found n) = s
-pushed r s k (Threw j left) = s
+pushed r s k (Threw t) = s
 pushed r s k (Declined why) = s
 
 -- the panel after a call, by its answer
@@ -98,7 +98,7 @@ setting_after r s Stop a = s
 abbrev pub opened : List ℕ → Answer → Progress
 opened ks (Found zero) = resting
 opened ks (Found (suc n)) = running ks 0
-opened ks (Threw k left) = resting
+opened ks (Threw t) = resting
 opened ks Done = resting
 opened ks (Declined why) = resting
 

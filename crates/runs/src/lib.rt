@@ -3,7 +3,7 @@
 #![tactic(auto)]
 
 ghost use Rattle.std.specs.Prelude.{◌≡◌};
-ghost use Rattle.runs.specs.Calls.{granted?};
+ghost use Rattle.runs.specs.Calls.{granted?, found_or, threw_or, done_or};
 ghost use Rattle.runs.specs.Theorems.{RunsKeepTheLaw, TestsAreMeant};
 
 use rules::Refusal;
@@ -22,29 +22,24 @@ pub enum Call {
     Stop,
 }
 
+/// What a granted step threw: the number of its move, and how many moves of the run are left.
+#[derive(Clone, Copy, PartialEq, Eq, Debug)]
+pub struct Thrown {
+    pub number: u8,
+    pub left: u64,
+}
+
 /// What a sequencer answers.
 #[derive(Clone, Copy, PartialEq, Eq, Debug)]
 pub enum Answer {
     /// An aim: the route has this many moves.
     Found(u64),
-    /// A step: the number of the move thrown, and how many are left.
-    Threw { number: u8, left: u64 },
+    /// A step threw the next move of the run.
+    Threw(Thrown),
     /// A nudge threw its move, or a stop ended the run.
     Done,
     /// The call is declined, and changed nothing.
     Declined(Refusal),
-}
-
-/// Only a refusal grants nothing.
-fn granted(answer: Answer) -> bool
-    ensures { result ≡ granted? answer }
-{
-    match answer {
-        Answer::Found(_) => true,
-        Answer::Threw { number: _, left: _ } => true,
-        Answer::Done => true,
-        Answer::Declined(_) => false,
-    }
 }
 
 impl Answer {
@@ -56,6 +51,33 @@ impl Answer {
         ensures law { RunsKeepTheLaw }
         ensures tests { TestsAreMeant }
     {
-        granted(self)
+        !matches!(self, Answer::Declined(_))
+    }
+}
+
+impl From<Result<u64, Refusal>> for Answer {
+    ghost from_gives = { λ found answer. answer ≡ found_or found };
+
+    /// The answer to an aim.
+    fn from(found: Result<u64, Refusal>) -> Answer {
+        found.map_or_else(Answer::Declined, Answer::Found)
+    }
+}
+
+impl From<Result<Thrown, Refusal>> for Answer {
+    ghost from_gives = { λ thrown answer. answer ≡ threw_or thrown };
+
+    /// The answer to a step.
+    fn from(thrown: Result<Thrown, Refusal>) -> Answer {
+        thrown.map_or_else(Answer::Declined, Answer::Threw)
+    }
+}
+
+impl From<Result<(), Refusal>> for Answer {
+    ghost from_gives = { λ done answer. answer ≡ done_or done };
+
+    /// The answer to a nudge or a stop.
+    fn from(done: Result<(), Refusal>) -> Answer {
+        done.map_or_else(Answer::Declined, |()| Answer::Done)
     }
 }

@@ -1,12 +1,10 @@
 -- Sequencers over panels, as the model has them. Assumes nothing.
---   threw_or o     a step that is granted or declined, as an answer
-use Rattle.std.specs.Prelude.{Ok, Err, Result}
-use Rattle.rules.specs.declared.refusal.Refusal.{Refusal}
-use Rattle.runs.specs.declared.Answer.{Answer}
-use Rattle.runs.specs.declared.Answer.TheVariants.{Threw, Declined}
-use Rattle.sequencer.specs.declared.thrown.Thrown.{Thrown}
+--   model_by setting q     the model of the sequencer q, where setting says what its panel means
+use Rattle.rules.specs.Rules.{Setting}
+use Rattle.runs.specs.Model.{Model}
+use Rattle.sequencer.specs.declared.sequencer.Sequencer.{Sequencer}
+use Rattle.sequencer.specs.Machines.{model_of}
 
--- the answer to a step
-abbrev pub threw_or : Result Thrown Refusal → Answer
-threw_or (Ok t) = Threw t.number t.left
-threw_or (Err why) = Declined why
+-- its machine, and the setting of its panel
+abbrev pub model_by : {P : Type 0} → (P → Setting) → Sequencer P → Model
+model_by setting q = model_of q.machine (setting q.panel)

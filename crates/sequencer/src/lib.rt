@@ -4,8 +4,7 @@
 mod machine;
 mod playing;
 mod sequencer;
-mod thrown;
 
 pub use playing::play;
+pub use runs::Thrown;
 pub use sequencer::Sequencer;
-pub use thrown::Thrown;

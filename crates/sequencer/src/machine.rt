@@ -3,25 +3,25 @@ mod kept;
 mod shown;
 mod state;
 
-ghost use Rattle.std.specs.Prelude.{◌≡◌, ℕ, ◌+◌, true, false, List, slice_index_or};
+ghost use Rattle.std.specs.Prelude.{◌≡◌, ℕ, ◌+◌, ◌<◌, true, false, List, IfOk, slice_index_or};
 ghost use Rattle.words.specs.Sets.{has, Below};
 ghost use Rattle.rules.specs.Rules.{Setting, Rules};
 ghost use Rattle.theory.specs.Searches.{all_below};
 ghost use Rattle.tasks.specs.Asks.{asks_of, rule_of};
+ghost use Rattle.runs.specs.Calls.{found_or, threw_or, done_or};
 ghost use Rattle.runs.specs.Deciding.{met?, legal?};
 ghost use Rattle.runs.specs.Model.{going_on};
 ghost use Rattle.runs.specs.Views.{running_in?, done_in, left_in, peeked_in};
-ghost use Rattle.runs.specs.declared.Call.TheVariants.{Aim, Step, Nudge};
-ghost use Rattle.sequencer.specs.declared.machine.state.State.TheVariants.{Idle, Running};
-ghost use Rattle.sequencer.specs.declared.machine.shown.Shown.{Shown as PanelShown};
-ghost use Rattle.sequencer.specs.States.{more?, progress_in};
-ghost use Rattle.sequencer.specs.Machines.{Does, found_or, done_or, progress_of, moved as number_moved};
+ghost use Rattle.runs.specs.declared.Call.TheVariants.{Aim, Step, Nudge, Stop};
+ghost use Rattle.sequencer.specs.declared.machine.state.State.TheVariants.{Idle};
+ghost use Rattle.sequencer.specs.States.{more?, progress_in, admitted};
+ghost use Rattle.sequencer.specs.Machines.{Shows, Does, progress_of};
 
 use book::{Book, Move, PartialSetting};
 pub(crate) use kept::Machine;
 use planner::{Route, plan};
 use rules::Refusal;
-use runs::{Answer, Call};
+use runs::{Call, Thrown};
 pub(crate) use shown::Shown;
 use state::State;
 use words::LatchSet;
@@ -54,17 +54,6 @@ fn onward(done: u64, left: u64) -> State
     }
 }
 
-/// The number of the move that a call so answered throws, if it throws one.
-pub(crate) fn moved(call: Call, answer: Answer) -> Option<u8>
-    ensures { result ≡ number_moved call answer }
-{
-    match (call, answer) {
-        (Call::Step, Answer::Threw { number, left: _ }) => Some(number),
-        (Call::Nudge(number), Answer::Done) => Some(number),
-        _ => None,
-    }
-}
-
 impl Machine {
     /// A machine at rest.
     pub(crate) fn new(book: Book) -> Machine
@@ -78,11 +67,29 @@ impl Machine {
         }
     }
 
-    /// An aim while idle.
-    fn aim(&mut self, shown: Shown, named: LatchSet, wanted: LatchSet) -> Result<u64, Refusal>
-        requires { self.old.state ≡ Idle }
-        ensures { Does shown (Aim named wanted) self.old self.new (found_or result) }
+    /// How many moves of the run are thrown, if the call is one for what is being done.
+    fn admit(&self, call: Call) -> Result<u64, Refusal>
+        ensures { result ≡ admitted self.now.state call }
     {
+        match (self.state, call) {
+            (State::Idle, Call::Aim { .. } | Call::Nudge(_)) => Ok(0),
+            (State::Idle, Call::Step | Call::Stop) => Err(Refusal::Idle),
+            (State::Running { done }, Call::Step | Call::Stop) => Ok(done),
+            (State::Running { .. }, Call::Aim { .. } | Call::Nudge(_)) => Err(Refusal::Running),
+        }
+    }
+
+    /// An aim: plans a route, and begins a run along it.
+    pub(crate) fn aim(
+        &mut self,
+        shown: Shown,
+        named: LatchSet,
+        wanted: LatchSet,
+    ) -> Result<u64, Refusal>
+        ensures does { (s : Setting) → Shows shown s → Does s (Aim named wanted) self.old self.new (found_or result) }
+        ensures book { self.new.book ≡ self.old.book }
+    {
+        self.admit(Call::Aim { named, wanted })?;
         if shown.width != self.book.latches {
             return Err(Refusal::Misfit);
         }
@@ -93,11 +100,25 @@ impl Machine {
         Ok(length)
     }
 
-    /// A nudge while idle.
-    fn nudge(&self, shown: Shown, number: u8) -> Result<(), Refusal>
-        requires { self.now.state ≡ Idle }
-        ensures { Does shown (Nudge number) self.now self.now (done_or result) }
+    /// A step: goes past the next move of the run, which is to be thrown.
+    pub(crate) fn step(&mut self) -> Result<Thrown, Refusal>
+        ensures does { (s : Setting) → Does s Step self.old self.new (threw_or result) }
+        ensures own { IfOk result (λ thrown. thrown.number < self.old.book.count) }
+        ensures book { self.new.book ≡ self.old.book }
     {
+        let done = self.admit(Call::Step)?;
+        let number = self.route.at(done).unwrap();
+        let left = self.route.length() - (done + 1);
+        self.state = onward(done + 1, left);
+        Ok(Thrown { number, left })
+    }
+
+    /// A nudge: whether the move of this number may be thrown.
+    pub(crate) fn nudge(&self, shown: Shown, number: u8) -> Result<(), Refusal>
+        ensures does { (s : Setting) → Shows shown s → Does s (Nudge number) self.now self.now (done_or result) }
+        ensures own { IfOk result (λ done. number < self.now.book.count) }
+    {
+        self.admit(Call::Nudge(number))?;
         if shown.width != self.book.latches {
             return Err(Refusal::Misfit);
         }
@@ -110,81 +131,44 @@ impl Machine {
         Ok(())
     }
 
-    /// A step of a run with so many moves thrown.
-    fn step(&mut self, done: u64) -> Answer
-        requires { self.old.state ≡ Running done }
-        ensures { (shown : PanelShown) → Does shown Step self.old self.new result }
+    /// A stop: ends the run.
+    pub(crate) fn stop(&mut self) -> Result<(), Refusal>
+        ensures does { (s : Setting) → Does s Stop self.old self.new (done_or result) }
+        ensures book { self.new.book ≡ self.old.book }
     {
-        let Some(number) = self.route.at(done) else {
-            unreachable()
-        };
-        let left = self.route.length() - (done + 1);
-        self.state = onward(done + 1, left);
-        Answer::Threw { number, left }
-    }
-
-    /// What a call comes to, by what is being done.
-    pub(crate) fn call(&mut self, call: Call, shown: Shown) -> Answer
-        ensures { Does shown call self.old self.new result }
-    {
-        match (self.state, call) {
-            (State::Idle, Call::Aim { named, wanted }) => match self.aim(shown, named, wanted) {
-                Ok(length) => Answer::Found(length),
-                Err(refusal) => Answer::Declined(refusal),
-            },
-            (State::Idle, Call::Nudge(number)) => match self.nudge(shown, number) {
-                Ok(()) => Answer::Done,
-                Err(refusal) => Answer::Declined(refusal),
-            },
-            (State::Idle, Call::Step | Call::Stop) => Answer::Declined(Refusal::Idle),
-            (State::Running { done }, Call::Step) => self.step(done),
-            (State::Running { done: _ }, Call::Stop) => {
-                self.state = State::Idle;
-                Answer::Done
-            }
-            (State::Running { done: _ }, Call::Aim { .. } | Call::Nudge(_)) => {
-                Answer::Declined(Refusal::Running)
-            }
-        }
+        self.admit(Call::Stop)?;
+        self.state = State::Idle;
+        Ok(())
     }
 
     /// The number of the move at place `k` of the run's route.
     pub(crate) fn peek(&self, k: u64) -> Option<u8>
         ensures { result ≡ peeked_in (progress_of self.now) k }
     {
-        match self.state {
-            State::Idle => None,
-            State::Running { done: _ } => self.route.at(k),
-        }
+        self.state.thrown()?;
+        self.route.at(k)
     }
 
     /// Whether a run is under way.
     pub(crate) fn is_running(&self) -> bool
         ensures { result ≡ running_in? (progress_of self.now) }
     {
-        match self.state {
-            State::Idle => false,
-            State::Running { done: _ } => true,
-        }
+        self.state.thrown().is_some()
     }
 
     /// How many moves of the run are thrown.
     pub(crate) fn done(&self) -> u64
         ensures { result ≡ done_in (progress_of self.now) }
     {
-        match self.state {
-            State::Idle => 0,
-            State::Running { done } => done,
-        }
+        self.state.thrown().unwrap_or(0)
     }
 
     /// How many moves of the run are left.
     pub(crate) fn left(&self) -> u64
         ensures { result ≡ left_in (progress_of self.now) }
     {
-        match self.state {
-            State::Idle => 0,
-            State::Running { done } => self.route.length() - done,
-        }
+        self.state
+            .thrown()
+            .map_or(0, |done| self.route.length() - done)
     }
 }

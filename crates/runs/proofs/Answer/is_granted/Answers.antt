@@ -3,5 +3,8 @@ use Rattle.runs.proofs.Legality.{tests_are_meant}
 use Rattle.runs.proofs.Law.{runs_keep_the_law}
 use Rattle.runs.proofs.Answer.is_granted.Goals as goal
 
-pub returns : goal.returns
-returns c = record { answer = c.granted.ensures; law = runs_keep_the_law; tests = tests_are_meant }
+pub returns-clause-law : goal.returns-clause-law
+returns-clause-law c = runs_keep_the_law
+
+pub returns-clause-tests : goal.returns-clause-tests
+returns-clause-tests c = tests_are_meant

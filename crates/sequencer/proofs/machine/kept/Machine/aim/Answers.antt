@@ -1,28 +1,25 @@
-use Rattle.std.proofs.Common.{◌≡◌, ℕ, ◌+◌, true, length, Err, sym, refl, ap, ◌∙◌, subst, arith}
+use Rattle.std.proofs.Common.{◌≡◌, ℕ, ◌+◌, true, length, refl, sym, ap, ◌∙◌, subst, arith}
 use Rattle.std.proofs.lemmas.Result.{err_from_is_err_and}
-use Rattle.rules.specs.declared.refusal.Refusal.{Refusal}
-use Rattle.tasks.specs.Asks.{rules_of, setting_of}
-use Rattle.planner.specs.Plans.{Planned}
+use Rattle.tasks.specs.Asks.{setting_of}
 use Rattle.planner.specs.Routes.{moves_of}
 use Rattle.runs.specs.declared.Answer.{Answer}
+use Rattle.runs.specs.declared.Answer.TheVariants.{Found, Declined}
 use Rattle.runs.specs.declared.Call.TheVariants.{Aim}
-use Rattle.runs.specs.Model.{going_on}
-use Rattle.sequencer.specs.Machines.{Does, found_or}
+use Rattle.runs.specs.Calls.{found_or}
+use Rattle.runs.specs.Model.{opened}
+use Rattle.sequencer.specs.Machines.{Does}
 use Rattle.sequencer.specs.States.{more?}
-use Rattle.sequencer.proofs.Resting.{aim_misfit, aim_refused, aim_found, route_own, opened_run}
+use Rattle.sequencer.proofs.Resting.{aim_rests, rests, aim_declined, aim_found, route_own, opened_run}
 use Rattle.sequencer.proofs.machine.kept.Machine.aim.Goals as goal
 
-pub returns-then-shown-self : goal.returns-then-shown-self
-returns-then-shown-self c = aim_misfit c.args.self.now c.requires c.args.shown c.args.named c.args.wanted c.if-shown-self.true
-
-pub returns-in_err-route : goal.returns-in_err-route
-returns-in_err-route c =
-    let p = err_from_is_err_and c.from_residual.result c.from_residual.ensures.1 in
+pub returns-in_err-route-clause-does : goal.returns-in_err-route-clause-does
+returns-in_err-route-clause-does c s w =
+    let p = err_from_is_err_and c.from_residual-in_err-route.result c.from_residual-in_err-route.ensures.1 in
     let m = c.args.self.now in
-    subst (λ (a : Answer). Does c.args.shown (Aim c.args.named c.args.wanted) m m a) (sym (ap found_or p.1))
-    (aim_refused m c.requires c.args.shown c.args.named c.args.wanted c.if-shown-self.false p.0
-    (subst (λ (e : Refusal). Planned (rules_of m.book) (setting_of m.book.latches c.args.shown.raised) c.args.named c.args.wanted (Err e)) (sym p.2)
-    c.in_err-route.ensures.answer))
+    let idle = aim_rests m.state _ _ _ c.in_ok-admit.ensures in
+    subst (λ (a : Answer). Does s (Aim c.args.named c.args.wanted) m m a) (sym (ap found_or p.1 ∙ ap Declined p.2))
+    (rests m m idle s _ _
+    (aim_declined m.book c.args.shown s w c.if-shown-self.false c.args.named c.args.wanted _ c.in_err-route.ensures.answer) (rw idle refl))
 
 pub invariant_of-self : goal.invariant_of-self
 invariant_of-self c =
@@ -35,9 +32,11 @@ invariant_of-self c =
           c.in_ok-route.route c.in_ok-route.ensures.says;
     }
 
-pub returns : goal.returns
-returns c =
+pub returns-clause-does : goal.returns-clause-does
+returns-clause-does c s w =
+    let m = c.args.self.now in
     let ks = moves_of c.in_ok-route.route in
-    aim_found c.args.self.now c.requires c.args.shown c.args.named c.args.wanted c.if-shown-self.false c.in_ok-route.route
-    c.in_ok-route.ensures.answer _ refl refl c.length-length.result c.length-length.ensures
-    (c.onward-self.ensures.progress ks ∙ ap (going_on ks 0) c.length-length.ensures ∙ sym (opened_run ks (length ks)))
+    let found = aim_found m.book c.args.shown s w c.if-shown-self.false c.args.named c.args.wanted c.in_ok-route.route c.in_ok-route.ensures.answer in
+    rests m _ (aim_rests m.state _ _ _ c.in_ok-admit.ensures) s _ _
+    (found.0 ∙ ap Found (sym c.length-length.ensures))
+    (c.onward-self.ensures.progress ks ∙ sym (opened_run ks c.length-length.result) ∙ ap (λ js. opened js (Found c.length-length.result)) found.1)
