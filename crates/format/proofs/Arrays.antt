@@ -1,14 +1,12 @@
 -- The two loops of a book: its latches and its moves.
-use Rattle.std.proofs.Common.{◌≡◌, ℕ, ◌+◌, ◌-◌, ◌<◌, ◌≤◌, List, map, length, take, set, codes, refl, ap, ◌∙◌, arith}
+use Rattle.std.proofs.Common.{◌≡◌, ℕ, suc, ◌+◌, ◌-◌, ◌<◌, ◌≤◌, List, [], ◌∷◌, ◌++◌, map, length, take, set, codes, refl, sym, ap, ◌∙◌, arith}
 use Rattle.format.specs.declared.Fault.{Fault}
 use Rattle.format.specs.Bytes.{Bytes}
 use Rattle.format.specs.Contents.{Rule}
-use Rattle.format.specs.Reader.{Place, Outcome, got, refused, entry}
+use Rattle.format.specs.Reader.{Place, Outcome, got, refused, chain, entry}
 use Rattle.format.specs.Values.{new_name}
 use Rattle.format.specs.Reading.{latches, rule, rules}
-use Rattle.book.specs.declared.name.Name.{Name}
 use Rattle.book.specs.declared.moves.Move.{Move}
-use Rattle.book.specs.Places.{name_of}
 use Rattle.format.specs.Said.{rule_of}
 use Rattle.format.proofs.Looping.{turn, stop, finish}
 
@@ -16,19 +14,21 @@ use Rattle.format.proofs.Looping.{turn, stop, finish}
 abbrev pub next_latch : List Bytes → Place → Outcome Bytes
 next_latch names = entry (codes "latch=") (new_name names)
 
-exactly : (i : ℕ) (names : List Name) (p : Place) → next_latch (map name_of (take i names)) p ≡ next_latch (map name_of (take (i - 0) names)) p
-exactly i names p = let e : i ≡ i - 0 = omega arith in ap (λ (k : ℕ). next_latch (map name_of (take k names)) p) e
+-- n latches are due, of which those named were read
+module _ (n i : ℕ) (names : List Bytes) (p : Place) (whole : Outcome (List Bytes)) (inv : latches (n - i) names p ≡ whole) where
+  one_latch : (o : Outcome Bytes) → i < n → next_latch names p ≡ o → chain o (λ x. latches (n - (i + 1)) (names ++ (x ∷ []))) ≡ whole
+  one_latch o l e =
+      let s : suc (n - (i + 1)) ≡ n - i = omega arith in
+      ap (λ (z : Outcome Bytes). chain z (λ x. latches (n - (i + 1)) (names ++ (x ∷ [])))) (sym e) ∙ ap (λ (k : ℕ). latches k names p) s ∙ inv
 
-pub latch_turn : (n i : ℕ) (names : List Name) (x : Name) (p q : Place) (whole : Outcome (List Bytes)) → i < n → i < length names → latches (n - i) (map name_of (take i names)) p ≡ whole
-    → next_latch (map name_of (take (i - 0) names)) p ≡ got (name_of x) q → latches (n - (i + 1)) (map name_of (take (i + 1) (set names i x))) q ≡ whole
-latch_turn n i names x p q whole l k inv e = turn name_of latches next_latch (λ d r. refl) (λ j d r. refl) n i names x p q whole l k inv (exactly i names p ∙ e)
+  pub latch_turn : (x : Bytes) (q : Place) → i < n → next_latch names p ≡ got x q → latches (n - (i + 1)) (names ++ (x ∷ [])) q ≡ whole
+  latch_turn x q l e = one_latch (got x q) l e
 
-pub latch_stop : (n i : ℕ) (names : List Name) (p : Place) (whole : Outcome (List Bytes)) (k : Fault) (t : ℕ) → i < n → latches (n - i) (map name_of (take i names)) p ≡ whole
-    → next_latch (map name_of (take (i - 0) names)) p ≡ refused k t → whole ≡ refused k t
-latch_stop n i names p whole k t l inv e = stop name_of latches next_latch (λ d r. refl) (λ j d r. refl) n i names p whole k t l inv (exactly i names p ∙ e)
+  pub latch_stop : (k : Fault) (t : ℕ) → i < n → next_latch names p ≡ refused k t → whole ≡ refused k t
+  latch_stop k t l e = sym (one_latch (refused k t) l e)
 
-pub latch_finish : (n i : ℕ) (names : List Name) (p : Place) (whole : Outcome (List Bytes)) → n ≤ i → i ≤ n → latches (n - i) (map name_of (take i names)) p ≡ whole → whole ≡ got (map name_of (take n names)) p
-latch_finish = finish name_of latches next_latch (λ d r. refl) (λ j d r. refl)
+  pub latch_finish : n ≤ i → whole ≡ got names p
+  latch_finish l = let z : n - i ≡ 0 = omega arith in sym inv ∙ ap (λ (k : ℕ). latches k names p) z
 
 module _ (names : List Bytes) where
   abbrev read_rules : ℕ → List Rule → Place → Outcome (List Rule)

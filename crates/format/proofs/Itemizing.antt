@@ -1,7 +1,7 @@
 -- A list of items, as a loop reads it part by part.
-use Rattle.std.proofs.Common.{◌≡◌, ℕ, suc, ◌+◌, ◌<◌, ◌≤◌, List, [], ◌∷◌, ◌++◌, map, length, sym, ap, ◌∙◌, add-one, arith}
+use Rattle.std.proofs.Common.{◌≡◌, ℕ, suc, ◌+◌, ◌<◌, ◌≤◌, List, [], ◌∷◌, ◌++◌, length, sym, ap, ◌∙◌, add-one, arith}
 use mathlib.Core.Option.{none, some}
-use Rattle.std.proofs.lemmas.List.{length-map, length-append, nil_from_length}
+use Rattle.std.proofs.lemmas.List.{length-append, nil_from_length}
 use Rattle.format.specs.declared.Fault.{Fault}
 use Rattle.format.specs.Bytes.{Bytes, cut, parts}
 use Rattle.format.specs.Contents.{Item}
@@ -10,8 +10,6 @@ use Rattle.format.specs.Values.{item, items, item_list, followed}
 use Rattle.format.proofs.Cutting.{cut_some, parts_next, parts_last}
 use Rattle.format.proofs.Items.{item_fine}
 use Rattle.words.specs.Sets.{Empty}
-use Rattle.book.specs.declared.name.Name.{Name}
-use Rattle.book.specs.Places.{name_of}
 use Rattle.book.specs.declared.partial.PartialSetting.{PartialSetting}
 use Rattle.format.specs.Said.{items_of}
 use Rattle.format.proofs.ItemsSaid.{no_items}
@@ -29,8 +27,8 @@ module _ (names : List Bytes) (v : Bytes) (p : PartialSetting) (empty : Empty p.
       begins (b ∷ w) l = ap (λ (z : List Item). items names 0 z (parts 32 (b ∷ w))) (no_items p empty)
 
 -- the latch of an item that was read
-pub item_latch : (names : List Name) (low : ℕ) (v : Bytes) (x : Item) → item (map name_of names) low v ≡ fine x → (low ≤ x.latch) × (x.latch < length names)
-item_latch names low v x h = let s = item_fine (map name_of names) low v x h in (s.1.0, omega (arith, s.1.1, length-map names name_of))
+pub item_latch : (names : List Bytes) (low : ℕ) (v : Bytes) (x : Item) → item names low v ≡ fine x → (low ≤ x.latch) × (x.latch < length names)
+item_latch names low v x h = (item_fine names low v x h).1
 
 module _ (names : List Bytes) (low : ℕ) (done : List Item) (rest : Bytes) (whole : Judged (List Item)) (inv : items names low done (parts 32 rest) ≡ whole) where
   at_part : (p : Bytes) (ps : List Bytes) (j : Judged Item) → parts 32 rest ≡ p ∷ ps → item names low p ≡ j → followed j (λ x. items names (suc x.latch) (done ++ (x ∷ [])) ps) ≡ whole

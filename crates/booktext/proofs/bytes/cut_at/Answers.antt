@@ -1,11 +1,18 @@
-use Rattle.format.proofs.Comparing.{cut_here, free_more, cut_end}
+use Rattle.std.proofs.Common.{eqb, length, rules, tests}
+use Rattle.std.proofs.lemmas.Iterator.{YieldsList-from_slice}
+use Rattle.std.proofs.lemmas.Iterator.Search.{position_from_yields_List}
+use Rattle.format.proofs.Comparing.{place, position_some, position_none, cut_here, cut_nowhere}
 use Rattle.booktext.proofs.bytes.cut_at.Goals as goal
 
-pub returns-then-b-sep : goal.returns-then-b-sep
-returns-then-b-sep c = cut_here c.args.sep c.args.s.now c.loop-i.i c.loop-i-test.true c.if-b-sep.true c.loop-i.invariant
-
-pub loop-i-preserved : goal.loop-i-preserved
-loop-i-preserved c = free_more c.args.sep c.args.s.now c.loop-i.i c.loop-i-test.true c.if-b-sep.false c.loop-i.invariant
+pub returns-in_err-i : goal.returns-in_err-i
+returns-in_err-i c =
+    let s = c.args.s.now in
+    let is = position_from_yields_List (λ b. eqb b c.args.sep) _ _ c.position.result c.position.ensures.ran (YieldsList-from_slice s cc) (λ x b q k. search (rules, tests)) in
+    rw c.from_residual.ensures (cut_nowhere c.args.sep s (position_none (place c.args.sep s) (length s) c.position.result is c.in_err-i.was))
 
 pub returns : goal.returns
-returns c = cut_end c.args.sep c.args.s.now c.loop-i.i c.loop-i-test.false c.loop-i.invariant
+returns c =
+    let s = c.args.s.now in
+    let is = position_from_yields_List (λ b. eqb b c.args.sep) _ _ c.position.result c.position.ensures.ran (YieldsList-from_slice s cc) (λ x b q k. search (rules, tests)) in
+    let found = position_some (place c.args.sep s) (length s) c.position.result is c.in_ok-i.i c.in_ok-i.was in
+    cut_here c.args.sep s c.in_ok-i.i found.0 found.1

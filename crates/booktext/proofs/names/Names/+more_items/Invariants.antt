@@ -1,5 +1,5 @@
 use Rattle.std.proofs.Common.{length}
-use Rattle.booktext.proofs.items.+more_items.Given as goal
+use Rattle.booktext.proofs.names.Names.+more_items.Given as goal
 
 -- what is left to read
 abbrev pub decreases-more_items : goal.decreases-more_items
