@@ -1,13 +1,11 @@
 //! Lists of items: what a move asks, and what an errand wants.
-ghost use Rattle.std.specs.Prelude.{◌≡◌, ◌<◌, ◌≤◌, length, IfOk, MatchOption};
+ghost use Rattle.std.specs.Prelude.{◌≡◌, ◌<◌, length, IfOk, MatchOption};
 ghost use Rattle.std.proofs.Math.Option.{none, some};
 ghost use Rattle.words.specs.Sets.{Below, most_latches};
-ghost use Rattle.format.specs.Bytes.{parts};
-ghost use Rattle.format.specs.Said.{items_of, UnaskedFrom};
-ghost use Rattle.format.specs.Values.{ending as ended, item as itemized, items as all_items, item_list};
+ghost use Rattle.format.specs.Said.{items_of};
+ghost use Rattle.format.specs.Values.{ending as ended, item as itemized, item_list};
 ghost use Rattle.booktext.specs.Read.{Means};
 
-use crate::bytes::cut_at;
 use crate::names::Names;
 use crate::value::position;
 use book::PartialSetting;
@@ -45,24 +43,6 @@ impl Names {
         Ok(Item { latch, at })
     }
 
-    /// The items of a text with one space between two, of latches from `low` on, beside what is asked already of latches below.
-    fn more_items(&self, low: u8, asked: PartialSetting, v: &[u8]) -> Result<PartialSetting, Fault>
-        requires { (low ≤ length self.now) × (UnaskedFrom low asked) }
-        ensures means { Means result (all_items self.now low (items_of asked) (parts 32 v.now)) items_of }
-        ensures below { IfOk result (λ p. Below (length self.now) p.named) }
-    {
-        match cut_at(v, b' ') {
-            Some((piece, more)) => {
-                let x = self.item(low, piece)?;
-                self.more_items(x.latch + 1, asked.with(x.latch, x.at), more)
-            }
-            None => {
-                let x = self.item(low, v)?;
-                Ok(asked.with(x.latch, x.at))
-            }
-        }
-    }
-
     /// A list of items: empty, or with exactly one space between two.
     pub(crate) fn items(&self, v: &[u8]) -> Result<PartialSetting, Fault>
         ensures means { Means result (item_list self.now v.now) items_of }
@@ -71,6 +51,13 @@ impl Names {
         if v.is_empty() {
             return Ok(PartialSetting::EMPTY);
         }
-        self.more_items(0, PartialSetting::EMPTY, v)
+        let mut asked = PartialSetting::EMPTY;
+        let mut low = 0;
+        for piece in v.split(|b| *b == b' ') {
+            let x = self.item(low, piece)?;
+            asked = asked.with(x.latch, x.at);
+            low = x.latch + 1;
+        }
+        Ok(asked)
     }
 }

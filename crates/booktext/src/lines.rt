@@ -1,13 +1,14 @@
 //! The lines of a text, one after another.
-ghost use Rattle.std.specs.Prelude.{◌≡◌, ℕ, ◌+◌, ◌<◌, ◌≤◌, [], length, MatchResult};
+ghost use Rattle.std.specs.Prelude.{◌≡◌, ◌+◌, ◌<◌, ◌≤◌, [], length, MatchOption, MatchResult};
+ghost use Rattle.std.proofs.Math.Option.{none, some};
 ghost use Rattle.std.specs.Fn.{FnOnceReturnsAt};
 ghost use Rattle.format.specs.declared.Fault.TheVariants.{Line, Length};
+ghost use Rattle.format.specs.Bytes.{cut};
 ghost use Rattle.format.specs.Reader.{Place, got, value as line_value};
 ghost use Rattle.format.specs.Reading.{most_bytes};
 ghost use Rattle.format.specs.Said.{Told};
 ghost use Rattle.booktext.specs.Read.{EntryRead};
 
-use crate::bytes::cut_at;
 use format::{Fault, TextRefusal, most_bytes};
 use std::marker::Model;
 
@@ -77,4 +78,12 @@ impl<'a> LineReader<'a> {
         }
         Ok(())
     }
+}
+
+/// What stands before the first `sep` and what stands behind it, if there is one.
+fn cut_at(s: &[u8], sep: u8) -> Option<(&[u8], &[u8])>
+    ensures { MatchOption result (cut sep s.now ≡ none) (λ p. cut sep s.now ≡ some (p.0.now, p.1.now)) }
+{
+    let i = s.iter().position(|b| *b == sep)?;
+    Some((&s[..i], &s[i + 1..]))
 }

@@ -1,4 +1,4 @@
-//! The parts of a book, and the lines of a whole book and errand.
+//! The latches and the moves of a book.
 ghost use Rattle.std.specs.Prelude.{◌≡◌, ◌≤◌, [], map, length, take, IfOk};
 ghost use Rattle.words.specs.Sets.{most_latches};
 ghost use Rattle.book.specs.Limits.{most_moves};

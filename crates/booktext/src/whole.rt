@@ -1,4 +1,4 @@
-//! Whole texts.
+//! Whole books, errands and texts.
 ghost use Rattle.std.specs.Prelude.{◌≡◌, ◌≤◌, true, IfOk, Ok, map, take, nat_lt};
 ghost use Rattle.std.specs.Fn.{FnOnceReturnsAtMut};
 ghost use Rattle.book.specs.declared.book.Book.{Book as AnyBook};

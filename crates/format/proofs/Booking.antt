@@ -5,23 +5,21 @@ use Rattle.std.proofs.ByRecursion.{All-get_or}
 use Rattle.std.proofs.lemmas.List.{length-map, length-take-le}
 use Rattle.book.specs.declared.book.Book.{Book}
 use Rattle.book.specs.declared.name.Name.{Name}
-use Rattle.words.specs.Sets.{most_latches}
-use Rattle.book.specs.Limits.{most_moves}
 use Rattle.book.specs.Names.{well_named, same}
 use Rattle.book.specs.Places.{name_of, name_at}
 use Rattle.format.specs.declared.Fault.{Fault}
 use Rattle.format.specs.Bytes.{Bytes}
-use Rattle.format.specs.Contents.{Item, Rule, Distinct}
-use Rattle.format.specs.Reader.{Place, Outcome, got, refused, give, chain, ◌>>=◌, entry}
-use Rattle.format.specs.Reading.{latches, rule, rules, book, errand}
+use Rattle.format.specs.Contents.{Item, Distinct}
+use Rattle.format.specs.Reader.{Place, Outcome, got, refused, give, chain, entry}
+use Rattle.format.specs.Reading.{latches, book, errand}
 use Rattle.format.specs.Said.{contents_of}
-use Rattle.format.specs.Values.{only, number, position, latch, item_list, positions}
+use Rattle.format.specs.Values.{number, latch, item_list, positions}
 use Rattle.format.proofs.BookSaid.{name_among, names_length}
 use Rattle.format.proofs.Finding.{apart_at}
 use Rattle.format.proofs.Plain.{latch_fine, number_fine}
 use Rattle.format.proofs.Soundness.{latches_got}
 use Rattle.format.proofs.Steps.{chain_from, entry_got}
-use Rattle.format.proofs.Tails.{from_latches, from_names, from_moves, from_rules, from_start, from_want}
+use Rattle.format.proofs.Tails.{from_start, from_want}
 
 -- the latch of a move is one of those named
 pub thrown_below : (names : List Bytes) (p : Place) (i : ℕ) (q : Place) → entry (codes "move=") (latch names) p ≡ got i q → i < length names
@@ -33,28 +31,6 @@ number_bounds key low high p n q h =
     let e = entry_got key (number low high) p n q h in
     let f = number_fine low high e.0 n e.1.1 in
     (f.0, f.1.0)
-
--- three lines are a move
-pub rule_made : (names : List Bytes) (p : Place) (u : ℕ) (q : Place) (b : Bool) (r : Place) (w : List Item) (s : Place)
-    → entry (codes "move=") (latch names) p ≡ got u q → entry (codes "to=") position q ≡ got b r
-    → entry (codes "when=") (item_list names) r ≡ got w s → rule names p ≡ got (record { latch = u; to = b; when = w }) s
-rule_made names p u q b r w s e1 e2 e3 =
-    chain_from (entry (codes "move=") (latch names) p)
-    (λ x. entry (codes "to=") position >>= (λ y. entry (codes "when=") (item_list names) >>= (λ z. give (record { latch = x; to = y; when = z })))) u q e1
-    ∙ chain_from (entry (codes "to=") position q) (λ y. entry (codes "when=") (item_list names) >>= (λ z. give (record { latch = u; to = y; when = z }))) b r e2
-    ∙ chain_from (entry (codes "when=") (item_list names) r) (λ z. give (record { latch = u; to = b; when = z })) w s e3
-
--- the parts of a book are a book
-pub book_made : (p0 p1 : Place) (n : ℕ) (p2 : Place) (names : List Bytes) (p3 : Place) (m : ℕ) (p4 : Place) (moves : List Rule) (p5 : Place)
-    → entry (codes "book=") (only (codes "1")) p0 ≡ got tt p1 → entry (codes "latches=") (number 1 most_latches) p1 ≡ got n p2
-    → latches n [] p2 ≡ got names p3 → entry (codes "moves=") (number 0 most_moves) p3 ≡ got m p4 → rules m names [] p4 ≡ got moves p5
-    → book p0 ≡ got (record { names = names; rules = moves }) p5
-book_made p0 p1 n p2 names p3 m p4 moves p5 e1 e2 e3 e4 e5 =
-    chain_from (entry (codes "book=") (only (codes "1")) p0) from_latches tt p1 e1
-    ∙ chain_from (entry (codes "latches=") (number 1 most_latches) p1) from_names n p2 e2
-    ∙ chain_from (latches n [] p2) from_moves names p3 e3
-    ∙ chain_from (entry (codes "moves=") (number 0 most_moves) p3) (from_rules names) m p4 e4
-    ∙ chain_from (rules m names [] p4) (λ ms. give (record { names = names; rules = ms })) moves p5 e5
 
 -- the lines of an errand, behind those of its book; a reader of them has the book's own count
 module _ (b : Book) (p0 p1 : Place) (h : book p0 ≡ got (contents_of b) p1) where

@@ -10,15 +10,15 @@ returns-in_err-place-clause-told c =
     let n = length-take-le c.args.count c.blank.result.moves (omega (arith, c.requires, c.blank.result.move_places)) in
     let p = err_from_is_err_and c.from_residual.result c.from_residual.ensures.1 in
     rw (p.1, p.2)
-    (move_stop c.args.names.now c.args.count c.loop-place.place-index c.loop-place.place-items c.loop-place.self _ _ _
-    (omega (arith, n, c.loop-place-test.true)) c.loop-place.invariant.0 c.in_err-place.ensures.told)
+    (move_stop c.args.names.now c.args.count c.loop-place.place-index c.loop-place.place-items c.loop-place.self _ c.loop-place.invariant.0 _ _
+    (omega (arith, n, c.loop-place-test.true)) c.in_err-place.ensures.told)
 
 pub loop-place-preserved : goal.loop-place-preserved
 loop-place-preserved c =
     let n = length-take-le c.args.count c.blank.result.moves (omega (arith, c.requires, c.blank.result.move_places)) in
     let l : c.loop-place.place-index < length c.loop-place.place-items = omega (arith, c.loop-place.auto.place-items, c.loop-place-test.true) in (
-      move_turn c.args.names.now c.args.count c.loop-place.place-index c.loop-place.place-items _ c.loop-place.self _ _
-          (omega (arith, n, c.loop-place-test.true)) l c.loop-place.invariant.0 c.in_ok-place.ensures.told,
+      move_turn c.args.names.now c.args.count c.loop-place.place-index c.loop-place.place-items c.loop-place.self _ c.loop-place.invariant.0 _ _
+          (omega (arith, n, c.loop-place-test.true)) l c.in_ok-place.ensures.told,
       speaks_more (length c.args.names.now) c.loop-place.place-index c.loop-place.place-items _ l c.loop-place.invariant.1 c.in_ok-place.ensures.own,
     )
 

@@ -2,7 +2,7 @@ use Rattle.std.proofs.Common.{eqb, length, rules, tests}
 use Rattle.std.proofs.lemmas.Iterator.{YieldsList-from_slice}
 use Rattle.std.proofs.lemmas.Iterator.Search.{position_from_yields_List}
 use Rattle.format.proofs.Comparing.{place, position_some, position_none, cut_here, cut_nowhere}
-use Rattle.booktext.proofs.bytes.cut_at.Goals as goal
+use Rattle.booktext.proofs.lines.cut_at.Goals as goal
 
 pub returns-in_err-i : goal.returns-in_err-i
 returns-in_err-i c =
