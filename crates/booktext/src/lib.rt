@@ -1,7 +1,6 @@
 //! Reads the texts of books and errands, and says at which line the first thing is wrong.
 #![tactic(auto)]
 
-mod bytes;
 mod entries;
 mod items;
 mod lines;

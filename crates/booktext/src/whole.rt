@@ -1,24 +1,56 @@
-//! Whole texts.
-ghost use Rattle.std.specs.Prelude.{◌≡◌, ◌<◌, ◌≤◌, true, false, [], length, IfOk, Ok, MatchResult, ◌==◌, nat_lt};
+//! Whole books, errands and texts.
+ghost use Rattle.std.specs.Prelude.{◌≡◌, ◌≤◌, true, IfOk, Ok, map, take, nat_lt};
+ghost use Rattle.std.specs.Fn.{FnOnceReturnsAtMut};
 ghost use Rattle.book.specs.declared.book.Book.{Book as AnyBook};
 ghost use Rattle.book.specs.declared.errand.Errand.{Errand as AnyErrand};
-ghost use Rattle.format.specs.declared.Fault.TheVariants.{Line, Length};
 ghost use Rattle.format.specs.Reader.{got};
-ghost use Rattle.format.specs.Reading.{book as book_read, errand as errand_read, most_bytes, read_book, read_errand};
-ghost use Rattle.format.specs.Said.{contents, contents_of, errand_contents_of, reading_of, Told};
+ghost use Rattle.format.specs.Reading.{book as book_read, errand as errand_read, read_book, read_errand};
+ghost use Rattle.format.specs.Said.{contents_of, errand_contents_of, reading_of, rule_of, Told};
 ghost use Rattle.format.specs.Texts.{text_of, errand_text_of, HasOneText};
-ghost use Rattle.booktext.specs.At.{at};
 ghost use Rattle.booktext.specs.Kept.{Kept};
+ghost use Rattle.booktext.specs.Read.{WholeRead};
 
 use crate::lines::LineReader;
-use book::{Book, Errand, MOST_LATCHES, MOST_MOVES, Move, Name};
-use format::{Fault, TextRefusal, most_bytes};
+use crate::names::Names;
+use book::{Book, Errand, MOST_LATCHES, MOST_MOVES, Move};
+use format::TextRefusal;
+
+impl LineReader<'_> {
+    /// The lines of a book.
+    fn book(&mut self) -> Result<Book, TextRefusal>
+        ensures { Told result (book_read self.old) (λ b. got (contents_of b) self.new) }
+    {
+        self.book_line()?;
+        let latches = self.number_line(b"latches=", 1, MOST_LATCHES as u8)?;
+        let names = self.latch_lines(latches)?;
+        let count = self.number_line(b"moves=", 0, MOST_MOVES as u8)?;
+        let moves = self.all_moves(&names, count)?;
+        Ok(bound(names, count, moves))
+    }
+
+    /// The lines of an errand.
+    fn errand(&mut self) -> Result<Errand, TextRefusal>
+        ensures { Told result (errand_read self.old) (λ e. got (errand_contents_of e) self.new) }
+    {
+        let book = self.book()?;
+        let start = self.start_line(book.latches)?;
+        let table = book.names;
+        let count = book.latches;
+        let names = Names { table, count };
+        let want = self.items_line(b"want=", &names)?;
+        Ok(Errand { book, start, want })
+    }
+}
 
 /// The book of these names and moves.
-fn bound(latches: u8, names: [Name; MOST_LATCHES], count: u8, moves: [Move; MOST_MOVES]) -> Book
-    requires { Kept latches names count moves }
-    ensures { (contents_of result ≡ contents latches names count moves) × (result.latches ≡ latches) }
+fn bound(names: Names, count: u8, moves: [Move; MOST_MOVES]) -> Book
+    requires { Kept names count moves }
+    ensures { contents_of result ≡ record { names = names; rules = map rule_of (take count moves) } }
 {
+    let Names {
+        table: names,
+        count: latches,
+    } = names;
     Book {
         latches,
         names,
@@ -27,84 +59,18 @@ fn bound(latches: u8, names: [Name; MOST_LATCHES], count: u8, moves: [Move; MOST
     }
 }
 
-impl LineReader<'_> {
-    /// The lines of a book.
-    fn book(&mut self) -> Result<Book, TextRefusal>
-        ensures { Told result (book_read (at self.old)) (λ b. got (contents_of b) (at self.new)) }
-    {
-        self.book_line()?;
-        let latches = self.number_line(b"latches=", 1, MOST_LATCHES as u8)?;
-        let names = self.latch_lines(latches)?;
-        let count = self.number_line(b"moves=", 0, MOST_MOVES as u8)?;
-        let moves = self.all_moves(&names[0..latches as usize], count)?;
-        Ok(bound(latches, names, count, moves))
-    }
-
-    /// The lines of an errand.
-    fn errand(&mut self) -> Result<Errand, TextRefusal>
-        ensures { Told result (errand_read (at self.old)) (λ e. got (errand_contents_of e) (at self.new)) }
-    {
-        let book = self.book()?;
-        let start = self.start_line(book.latches)?;
-        let want = self.items_line(b"want=", &book.names[0..book.latches as usize])?;
-        Ok(Errand { book, start, want })
-    }
-}
-
-/// Refuses a text that is too long.
-fn within_limit(text: &[u8]) -> Result<(), TextRefusal>
-    ensures { MatchResult result (λ _. length text.now ≤ most_bytes)
-        (λ e. (most_bytes < length text.now) × ((e.fault ≡ Length) × (e.line ≡ 1))) }
+/// What the lines of a whole text are read as.
+fn whole<'a, T: Drop, F: FnOnce(&mut LineReader<'a>) -> Result<T, TextRefusal>>(
+    text: &'a [u8],
+    read: F,
+) -> Result<T, TextRefusal>
+    requires { F.IsAlwaysCallable read }
+    ensures { WholeRead (FnOnceReturnsAtMut F.FnOnce read) text.now result }
 {
-    if text.len() > most_bytes() {
-        return Err(TextRefusal {
-            fault: Fault::Length,
-            line: 1,
-        });
-    }
-    Ok(())
-}
-
-/// Refuses bytes behind the last line, at the line that they would be.
-fn ended(lines: &LineReader) -> Result<(), TextRefusal>
-    ensures { MatchResult result (λ _. lines.now.rest.now ≡ [])
-        (λ e. ((length lines.now.rest.now == 0) ≡ false) × ((e.fault ≡ Line) × (e.line ≡ lines.now.line))) }
-{
-    if lines.rest.is_empty() {
-        return Ok(());
-    }
-    Err(TextRefusal {
-        fault: Fault::Line,
-        line: lines.line,
-    })
-}
-
-/// Reads a whole text as a book.
-fn book_from(text: &[u8]) -> Result<Book, TextRefusal>
-    ensures { reading_of contents_of result ≡ read_book text.now }
-{
-    within_limit(text)?;
-    let mut lines = LineReader {
-        line: 1,
-        rest: text,
-    };
-    let book = lines.book()?;
-    ended(&lines)?;
-    Ok(book)
-}
-
-/// Reads a whole text as an errand.
-fn errand_from(text: &[u8]) -> Result<Errand, TextRefusal>
-    ensures { reading_of errand_contents_of result ≡ read_errand text.now }
-{
-    within_limit(text)?;
-    let mut lines = LineReader {
-        line: 1,
-        rest: text,
-    };
-    let errand = lines.errand()?;
-    ended(&lines)?;
-    Ok(errand)
+    let mut lines = LineReader::new(text)?;
+    let said = read(&mut lines)?;
+    lines.end()?;
+    Ok(said)
 }
 
 /// The book that a text says, or why the text is refused. Exactly the texts of books with a latch are accepted, and each gives the book
@@ -114,7 +80,7 @@ pub fn read_book(text: &[u8]) -> Result<Book, TextRefusal>
     ensures says { IfOk result (λ b. (1 ≤ b.latches) × (text.now ≡ text_of b)) }
     ensures finds { (b : AnyBook) → 1 ≤ b.latches → text.now ≡ text_of b → result ≡ Ok b }
 {
-    book_from(text)
+    whole(text, LineReader::book)
 }
 
 /// The errand that a text says, or why the text is refused. Exactly the texts of errands of books with a latch are accepted, and each gives
@@ -124,7 +90,7 @@ pub fn read_errand(text: &[u8]) -> Result<Errand, TextRefusal>
     ensures says { IfOk result (λ e. (1 ≤ e.book.latches) × (text.now ≡ errand_text_of e)) }
     ensures finds { (e : AnyErrand) → 1 ≤ e.book.latches → text.now ≡ errand_text_of e → result ≡ Ok e }
 {
-    errand_from(text)
+    whole(text, LineReader::errand)
 }
 
 /// Whether the book has a latch.

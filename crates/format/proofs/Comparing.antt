@@ -1,40 +1,82 @@
 -- Comparing, cutting and stripping, as code does it and as the format says it.
-use Rattle.std.proofs.Common.{◌≡◌, ℕ, ◌+◌, ◌-◌, ◌<◌, ◌≤◌, true, not, eqb, List, [], ◌∷◌, ◌++◌, length, get_or, take, drop, Some, None, Decides, sym, refl, ap, ◌∙◌, arith, Bor, rules, MatchOption}
+use Rattle.std.proofs.Common.{◌≡◌, ℕ, suc, ◌+◌, ◌-◌, Bool, true, false, cond, not, eqb, ltb, List, [], ◌∷◌, ◌++◌, length, take, drop, Some, None, inl, inr, sym, refl, ap, ◌∙◌, add-one, arith, Bor, MatchOption}
+use Rattle.std.specs.List.{position_or_len}
+use Rattle.std.specs.Cmp.Lexicographic.{pointwise}
 use mathlib.Core.Option.{Option, none, some}
 use Rattle.std.specs.declared.option.Option as rust
-use Rattle.std.proofs.lemmas.Slice.Eq.{compares_Decides}
-use Rattle.std.proofs.lemmas.List.{take_more, take-append-drop, drop_more, take_all, take_rest}
-use Rattle.std.proofs.lemmas.Bool.{ne_eqb, and_from, and_parts, not_from_false, not-true, cond-false}
+use Rattle.std.proofs.lemmas.List.{take_rest}
+use Rattle.std.proofs.lemmas.Bool.{cases_lt, lt-ltb, le-ltb, cond-true, cond-false}
 use Rattle.book.specs.Names.{same}
 use Rattle.format.specs.Bytes.{Bytes, cut, further, strip}
-use Rattle.format.proofs.Cutting.{free, free_append, cut_at, strip_some, strip_at}
+use Rattle.format.proofs.Cutting.{same_true, strip_some, strip_at}
 
-pub same_decides : (xs ys : Bytes) → Decides (same xs ys) (xs ≡ ys)
-same_decides xs ys = compares_Decides same (search rules) xs ys
+pub same_is : (xs ys : Bytes) → same xs ys ≡ pointwise eqb xs ys
+same_is [] [] = refl
+same_is [] (y ∷ ys) = refl
+same_is (x ∷ xs) [] = refl
+same_is (x ∷ xs) (y ∷ ys) = rw (same_is xs ys) refl
 
--- a separator at i, and none before it: the two parts as slices
-pub cut_here : (sep : ℕ) (s : Bytes) (i : ℕ) → i < length s → get_or s i 0 ≡ sep → free sep (take i s) ≡ true
-    → cut sep s ≡ some (take (i - 0) s, take (length s - (i + 1)) (drop (i + 1) s))
-cut_here sep s i l e f =
-    let z : i - 0 ≡ i = omega arith in
-    ap (cut sep) (sym (take-append-drop i s) ∙ ap (λ (x : Bytes). take i s ++ x) (drop_more s i 0 l ∙ ap (λ (b : ℕ). b ∷ drop (i + 1) s) e))
-    ∙ cut_at sep (take i s) (drop (i + 1) s) f
-    ∙ ap (λ (k : ℕ). some (take k s, drop (i + 1) s)) (sym z)
-    ∙ ap (λ (x : Bytes). some (take (i - 0) s, x)) (sym (take_rest s (i + 1)))
+pub other_length : (xs ys : Bytes) → (length xs ≡ length ys → ⊥) → same xs ys ≡ false
+other_length xs ys ne = go (same xs ys) refl
+  where
+    go : (t : Bool) → same xs ys ≡ t → same xs ys ≡ false
+    go true e = absurd (ne (ap length (same_true xs ys e)))
+    go false e = e
 
-pub free_more : (sep : ℕ) (s : Bytes) (i : ℕ) → i < length s → (get_or s i 0 ≡ sep → ⊥) → free sep (take i s) ≡ true → free sep (take (i + 1) s) ≡ true
-free_more sep s i l ne f =
-    ap (free sep) (take_more s i 0 l)
-    ∙ free_append sep (take i s) (get_or s i 0 ∷ []) f (and_from _ _ (not_from_false _ (ne_eqb (get_or s i 0) sep ne)) refl)
+-- what `position` answers, where p is the place that it seeks among n
+module _ (p n : ℕ) (r : rust.Option ℕ) (is : r ≡ cond (ltb p n) (Some p) None) where
+  pub position_some : (i : ℕ) → r ≡ Some i → (p ≡ i) × (ltb p n ≡ true)
+  position_some i e = go (ltb p n) refl (sym is ∙ e)
+    where
+      go : (t : Bool) → ltb p n ≡ t → cond t (Some p) None ≡ Some i → (p ≡ i) × (ltb p n ≡ true)
+      go true t h = ((cc), t)
+      go false t h = absurd (cc)
 
-pub free_cut : (sep : ℕ) (s : Bytes) → free sep s ≡ true → cut sep s ≡ none
-free_cut sep [] f = refl
-free_cut sep (b ∷ s) f =
-    let p = and_parts (not (eqb b sep)) (free sep s) f in
-    cond-false (eqb b sep) _ _ (not-true (eqb b sep) p.0) ∙ ap (further b) (free_cut sep s p.1)
+  pub position_none : r ≡ None → ltb p n ≡ false
+  position_none e = go (ltb p n) refl (sym is ∙ e)
+    where
+      go : (t : Bool) → ltb p n ≡ t → cond t (Some p) None ≡ None → ltb p n ≡ false
+      go true t h = absurd (cc)
+      go false t h = t
 
-pub cut_end : (sep : ℕ) (s : Bytes) (i : ℕ) → length s ≤ i → free sep (take i s) ≡ true → cut sep s ≡ none
-cut_end sep s i l f = free_cut sep s (ap (free sep) (sym (take_all i s l)) ∙ f)
+pub both_more : (p n : ℕ) → ltb p n ≡ ltb (suc p) (suc n)
+both_more p n =
+    elim (cases_lt p n) [
+      | inl l ↦ lt-ltb p n l ∙ sym (lt-ltb (suc p) (suc n) (omega arith))
+      | inr l ↦ le-ltb p n l ∙ sym (le-ltb (suc p) (suc n) (omega arith))
+    ]
+
+-- the place of the first separator, or the length
+abbrev pub place : ℕ → Bytes → ℕ
+place sep s = position_or_len (λ b. eqb b sep) s
+
+cut_first : (sep : ℕ) (s : Bytes) → cut sep s ≡ cond (ltb (place sep s) (length s)) (some (take (place sep s) s, drop (suc (place sep s)) s)) none
+cut_first sep [] = refl
+cut_first sep (b ∷ s) = go (eqb b sep) (place sep s) (cut_first sep s)
+  where
+    next : (t : Bool) (p : ℕ) → cut sep s ≡ cond t (some (take p s, drop (suc p) s)) none
+        → further b (cut sep s) ≡ cond t (some (b ∷ take p s, drop (suc p) s)) none
+    next true p h = ap (further b) h
+    next false p h = ap (further b) h
+
+    go : (t : Bool) (p : ℕ) → cut sep s ≡ cond (ltb p (length s)) (some (take p s, drop (suc p) s)) none
+        → cond t (some ([], s)) (further b (cut sep s))
+        ≡ cond (ltb (cond (not t) (1 + p) 0) (length (b ∷ s))) (some (take (cond (not t) (1 + p) 0) (b ∷ s), drop (suc (cond (not t) (1 + p) 0)) (b ∷ s))) none
+    go true p h = sym (cond-true _ _ _ (lt-ltb 0 (length (b ∷ s)) (omega arith)))
+    go false p h =
+        let e : suc p ≡ 1 + p = omega arith in
+        next (ltb p (length s)) p h
+        ∙ ap (λ (t : Bool). cond t (some (take (suc p) (b ∷ s), drop (suc (suc p)) (b ∷ s))) none) (both_more p (length s))
+        ∙ ap (λ (k : ℕ). cond (ltb k (length (b ∷ s))) (some (take k (b ∷ s), drop (suc k) (b ∷ s))) none) e
+
+pub cut_here : (sep : ℕ) (s : Bytes) (i : ℕ) → place sep s ≡ i → ltb (place sep s) (length s) ≡ true
+    → cut sep s ≡ some (take i s, take (length s - (i + 1)) (drop (i + 1) s))
+cut_here sep s i e t =
+    cut_first sep s ∙ cond-true _ _ _ t ∙ ap (λ (k : ℕ). some (take k s, drop (suc k) s)) e
+    ∙ ap (λ (k : ℕ). some (take i s, drop k s)) (sym (add-one i)) ∙ ap (λ (x : Bytes). some (take i s, x)) (sym (take_rest s (i + 1)))
+
+pub cut_nowhere : (sep : ℕ) (s : Bytes) → ltb (place sep s) (length s) ≡ false → cut sep s ≡ none
+cut_nowhere sep s t = cut_first sep s ∙ cond-false _ _ _ t
 
 no_strip : (s key : Bytes) → ((rest : Bytes) → s ≡ key ++ rest → ⊥) → (o : Option Bytes) → strip key s ≡ o → strip key s ≡ none
 no_strip s key h none e = e

@@ -74,16 +74,6 @@ cut_at sep (x ∷ xs) b h =
     let p = and_parts (not (eqb x sep)) (free sep xs) h in
     cond-false (eqb x sep) _ _ (not-true (eqb x sep) p.0) ∙ ap (further x) (cut_at sep xs b p.1)
 
-pub cut_none : (sep : ℕ) (xs : Bytes) → cut sep xs ≡ none → free sep xs ≡ true
-cut_none sep [] h = refl
-cut_none sep (x ∷ xs) h = go (eqb x sep) refl (cut sep xs) refl h (λ e. cut_none sep xs e)
-  where
-    go : (t : Bool) → eqb x sep ≡ t → (o : Option (Bytes × Bytes)) → cut sep xs ≡ o → cond t (some ([], xs)) (further x o) ≡ none
-        → (cut sep xs ≡ none → free sep xs ≡ true) → free sep (x ∷ xs) ≡ true
-    go true e o eo h ih = absurd (none≢some (sym h))
-    go false e none eo h ih = and_from _ _ (not_from_false (eqb x sep) e) (ih eo)
-    go false e (some c) eo h ih = absurd (none≢some (sym h))
-
 pub strip_some : (k l v : Bytes) → strip k l ≡ some v → l ≡ k ++ v
 strip_some [] l v h = some_same l v h
 strip_some (k ∷ ks) [] v h = absurd (none≢some h)
@@ -133,10 +123,3 @@ parts_cut sep (b ∷ p) r h =
 pub parts_joined : (sep : ℕ) (x : Bytes) (xs : List Bytes) → free sep x ≡ true → AllByRecursion (λ y. free sep y ≡ true) xs → parts sep (joined sep (x ∷ xs)) ≡ x ∷ xs
 parts_joined sep x [] h a = ap (parts sep) (append-nil x) ∙ parts_one sep x h
 parts_joined sep x (y ∷ ys) h a = parts_cut sep x (joined sep (y ∷ ys)) h ∙ ap (λ (z : List Bytes). x ∷ z) (parts_joined sep y ys a.0 a.1)
-
--- how a loop that cuts at each separator goes through the parts
-pub parts_next : (sep : ℕ) (v p r : Bytes) → cut sep v ≡ some (p, r) → parts sep v ≡ p ∷ parts sep r
-parts_next sep v p r h = let c = cut_some sep v p r h in ap (parts sep) c.0 ∙ parts_cut sep p r c.1
-
-pub parts_last : (sep : ℕ) (v : Bytes) → cut sep v ≡ none → parts sep v ≡ v ∷ []
-parts_last sep v h = parts_one sep v (cut_none sep v h)

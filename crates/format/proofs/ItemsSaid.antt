@@ -3,6 +3,7 @@ use Rattle.std.proofs.Common.{◌≡◌, ℕ, zero, suc, ◌+◌, ◌-◌, ◌<�
 use mathlib.Core.Option.{Option, none, some}
 use Rattle.std.proofs.lemmas.List.{append-nil}
 use Rattle.std.proofs.lemmas.Bool.{cases_lt, cases_Bool, both_ways, eq-eqb, ne_eqb, lt-ltb, and_from, and_left, cond-true, cond-false}
+use Rattle.words.specs.declared.LatchSet.{LatchSet}
 use Rattle.words.specs.Sets.{has, Empty, Below, most_latches}
 use Rattle.book.specs.declared.partial.PartialSetting.{PartialSetting}
 use Rattle.book.specs.Settings.{asked, asked_with}
@@ -44,6 +45,14 @@ same_below zero p q h = refl
 same_below (suc n) p q h =
     ap (λ (xs : List Item). xs ++ item_at n (asked p n)) (same_below n p q (λ j l. h j (omega arith)))
     ∙ ap (λ (o : Option Bool). items_below n q ++ item_at n o) (h n (omega arith))
+
+-- what is asked is told by the latches named and those at 1
+pub same_asked : (p q : PartialSetting) → p.named ≡ q.named → p.ones ≡ q.ones → (j : ℕ) → asked p j ≡ asked q j
+same_asked p q e f j =
+    ap (λ (s : LatchSet). cond (has s j) (some (has p.ones j)) none) e ∙ ap (λ (s : LatchSet). cond (has q.named j) (some (has s j)) none) f
+
+pub same_items : (p q : PartialSetting) → p.named ≡ q.named → p.ones ≡ q.ones → items_of p ≡ items_of q
+same_items p q e f = same_below most_latches p q (λ j l. same_asked p q e f j)
 
 none_above : (d m : ℕ) (p : PartialSetting) → UnaskedFrom m p → items_below (d + m) p ≡ items_below m p
 unfolding items_below

@@ -1,45 +1,43 @@
--- Finding a name among names, place by place.
-use Rattle.std.proofs.Common.{◌≡◌, ℕ, ◌+◌, ◌<◌, ◌≤◌, Bool, true, false, cond, List, [], ◌∷◌, ◌++◌, map, length, get_or, take, drop, sym, refl, ap, ◌∙◌, arith}
-use mathlib.Core.Option.{Option, none, some}
-use Rattle.std.proofs.lemmas.List.{take_more, take_all, take-append-drop, drop_more, map-append, length-map, length-take-le}
-use Rattle.std.proofs.lemmas.Bool.{cond-true, cond-false}
+-- Finding a name among names, as code does it.
+use Rattle.std.proofs.Common.{◌≡◌, ℕ, suc, ◌+◌, Bool, true, false, cond, not, eqb, ltb, [], ◌∷◌, List, map, length, sym, refl, ap, ◌∙◌, arith}
+use Rattle.std.specs.List.{position_or_len}
+use Rattle.std.specs.Cmp.Lexicographic.{pointwise}
+use mathlib.Core.Option.{none, some}
+use Rattle.std.proofs.lemmas.Bool.{lt-ltb, cond-true, cond-false}
 use Rattle.book.specs.declared.name.Name.{Name}
-use Rattle.book.specs.Names.{same}
 use Rattle.book.specs.Places.{name_of}
 use Rattle.format.specs.Bytes.{Bytes}
 use Rattle.format.specs.Values.{find, one_up}
-use Rattle.format.proofs.Cutting.{none≢some}
+use Rattle.format.proofs.Comparing.{same_is, both_more}
 
-none_parts : (v x : Bytes) (xs : List Bytes) → find v (x ∷ xs) ≡ none → (same x v ≡ false) × (find v xs ≡ none)
-none_parts v x xs h = go (same x v) refl (find v xs) refl h
+-- whether the name is these bytes, as `==` has it
+abbrev pub is_name : Bytes → Name → Bool
+is_name v x = pointwise eqb (name_of x) v
+
+-- the place of the first such name, or how many names there are
+abbrev pub name_place : Bytes → List Name → ℕ
+name_place v names = position_or_len (is_name v) names
+
+find_first : (v : Bytes) (names : List Name) → find v (map name_of names) ≡ cond (ltb (name_place v names) (length names)) (some (name_place v names)) none
+find_first v [] = refl
+find_first v (x ∷ names) =
+    ap (λ (t : Bool). cond t (some 0) (one_up (find v (map name_of names)))) (same_is (name_of x) v)
+    ∙ go (is_name v x) (name_place v names) (find_first v names)
   where
-    go : (t : Bool) → same x v ≡ t → (o : Option ℕ) → find v xs ≡ o → cond t (some 0) (one_up o) ≡ none → (same x v ≡ false) × (find v xs ≡ none)
-    go true e o f h = absurd (none≢some (sym h))
-    go false e none f h = (e, f)
-    go false e (some i) f h = absurd (none≢some (sym h))
+    next : (t : Bool) (p : ℕ) → find v (map name_of names) ≡ cond t (some p) none → one_up (find v (map name_of names)) ≡ cond t (some (suc p)) none
+    next true p h = ap one_up h
+    next false p h = ap one_up h
 
-find_here : (v : Bytes) (xs : List Bytes) (y : Bytes) (ys : List Bytes) → find v xs ≡ none → same y v ≡ true → find v (xs ++ (y ∷ ys)) ≡ some (length xs)
-find_here v [] y ys h e = cond-true (same y v) _ _ e
-find_here v (x ∷ xs) y ys h e = let p = none_parts v x xs h in cond-false (same x v) _ _ p.0 ∙ ap one_up (find_here v xs y ys p.1 e)
+    go : (t : Bool) (p : ℕ) → find v (map name_of names) ≡ cond (ltb p (length names)) (some p) none
+        → cond t (some 0) (one_up (find v (map name_of names))) ≡ cond (ltb (cond (not t) (1 + p) 0) (length (x ∷ names))) (some (cond (not t) (1 + p) 0)) none
+    go true p h = sym (cond-true _ _ _ (lt-ltb 0 (length (x ∷ names)) (omega arith)))
+    go false p h =
+        let e : suc p ≡ 1 + p = omega arith in
+        next (ltb p (length names)) p h ∙ ap (λ (t : Bool). cond t (some (suc p)) none) (both_more p (length names))
+        ∙ ap (λ (k : ℕ). cond (ltb k (length (x ∷ names))) (some k) none) e
 
-find_not : (v : Bytes) (xs : List Bytes) (y : Bytes) → find v xs ≡ none → same y v ≡ false → find v (xs ++ (y ∷ [])) ≡ none
-find_not v [] y h e = cond-false (same y v) _ _ e
-find_not v (x ∷ xs) y h e = let p = none_parts v x xs h in cond-false (same x v) _ _ p.0 ∙ ap one_up (find_not v xs y p.1 e)
+pub found_here : (v : Bytes) (names : List Name) (i : ℕ) → name_place v names ≡ i → ltb (name_place v names) (length names) ≡ true → find v (map name_of names) ≡ some i
+found_here v names i e t = find_first v names ∙ cond-true _ _ _ t ∙ ap some e
 
-pub found_here : (v : Bytes) (names : List Name) (i : ℕ) (d : Name) → i < length names → find v (map name_of (take i names)) ≡ none
-    → same (name_of (get_or names i d)) v ≡ true → find v (map name_of names) ≡ some i
-found_here v names i d l h e =
-    ap (λ (z : List Name). find v (map name_of z)) (sym (take-append-drop i names) ∙ ap (λ (z : List Name). take i names ++ z) (drop_more names i d l))
-    ∙ ap (find v) (map-append name_of (take i names) (get_or names i d ∷ drop (i + 1) names))
-    ∙ find_here v (map name_of (take i names)) (name_of (get_or names i d)) (map name_of (drop (i + 1) names)) h e
-    ∙ ap some (length-map (take i names) name_of ∙ length-take-le i names (omega arith))
-
-pub not_yet : (v : Bytes) (names : List Name) (i : ℕ) (d : Name) → i < length names → find v (map name_of (take i names)) ≡ none
-    → same (name_of (get_or names i d)) v ≡ false → find v (map name_of (take (i + 1) names)) ≡ none
-not_yet v names i d l h e =
-    ap (λ (z : List Name). find v (map name_of z)) (take_more names i d l)
-    ∙ ap (find v) (map-append name_of (take i names) (get_or names i d ∷ []))
-    ∙ find_not v (map name_of (take i names)) (name_of (get_or names i d)) h e
-
-pub nowhere : (v : Bytes) (names : List Name) (i : ℕ) → length names ≤ i → find v (map name_of (take i names)) ≡ none → find v (map name_of names) ≡ none
-nowhere v names i l h = ap (λ (z : List Name). find v (map name_of z)) (sym (take_all i names l)) ∙ h
+pub found_nowhere : (v : Bytes) (names : List Name) → ltb (name_place v names) (length names) ≡ false → find v (map name_of names) ≡ none
+found_nowhere v names t = find_first v names ∙ cond-false _ _ _ t

@@ -122,10 +122,6 @@ module _ (n i : ℕ) (s : LatchSet) (v : Bytes) (l : i < length v) (inv : positi
       ap (λ (z : List Bool). positions n z (drop (i + 1) v)) (positions_more i s u (get_or v i 0) p)
       ∙ sym (digit_step n (positions_of i s) (get_or v i 0) (drop (i + 1) v) a b) ∙ sym (at_drop_more (positions n (positions_of i s)) v i 0 l) ∙ inv
 
-  pub start_wrong : (get_or v i 0 ≡ 48 → ⊥) → (get_or v i 0 ≡ 49 → ⊥) → positions n [] v ≡ wrong Value
-  start_wrong a b =
-      sym inv ∙ at_drop_more (positions n (positions_of i s)) v i 0 l ∙ cond-false _ _ _ (ne_eqb (get_or v i 0) 48 a) ∙ cond-false _ _ _ (ne_eqb (get_or v i 0) 49 b)
-
 pub start_done : (n i : ℕ) (s : LatchSet) (v : Bytes) → i ≡ n → length v ≤ i → positions n (positions_of i s) (drop i v) ≡ positions n [] v → positions n [] v ≡ fine (positions_of n s)
 start_done n i s v e l inv =
     sym inv ∙ at_drop_all (positions n (positions_of i s)) v i l

@@ -1,9 +1,11 @@
+use Rattle.format.specs.Reading.{errand}
+use Rattle.format.specs.Said.{errand_contents_of}
 use Rattle.format.proofs.Answered.{errand_says, errand_finds}
+use Rattle.booktext.proofs.Readers.{told_whole}
 use Rattle.booktext.proofs.whole.read_errand.Goals as goal
 
 pub returns : goal.returns
-returns c = record {
-  reads = c.errand_from.ensures;
-  says = errand_says c.args.text.now c.errand_from.result c.errand_from.ensures;
-  finds = errand_finds c.args.text.now c.errand_from.result c.errand_from.ensures;
-}
+returns c =
+    let t = c.args.text.now in
+    let e = told_whole errand_contents_of errand c.whole.ensures (λ p s q h. rw (← h.shows, ← h.leaves) h.met) in
+    record { reads = e; says = errand_says t c.whole.result e; finds = errand_finds t c.whole.result e }

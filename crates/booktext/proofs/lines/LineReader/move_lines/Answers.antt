@@ -1,15 +1,8 @@
-use Rattle.std.proofs.Common.{map}
-use Rattle.book.specs.Places.{name_of}
-use Rattle.format.proofs.Booking.{thrown_below, rule_made}
-use Rattle.booktext.specs.At.{at}
+use Rattle.format.proofs.Booking.{thrown_below}
 use Rattle.booktext.proofs.lines.LineReader.move_lines.Goals as goal
 
-pub returns : goal.returns
-returns c =
-    let a = c.in_ok-latch.ensures in
-    let b = c.in_ok-to.ensures in
-    let w = c.in_ok-when.ensures in
-    record {
-      told = rule_made (map name_of c.args.names.now) (at c.args.self.now) _ _ _ _ _ _ a b w.told;
-      own = record { own = thrown_below c.args.names.now (at c.args.self.now) _ _ a; asks = w.below };
-    }
+pub returns-clause-own : goal.returns-clause-own
+returns-clause-own c = record {
+  own = thrown_below c.args.names.now c.args.self.now _ _ c.in_ok-latch.ensures;
+  asks = c.in_ok-when.ensures.below;
+}

@@ -1,6 +1,0 @@
-use Rattle.std.proofs.Common.{length}
-use Rattle.booktext.proofs.items.+more_items.Given as goal
-
--- what is left to read
-abbrev pub decreases-more_items : goal.decreases-more_items
-decreases-more_items l = length l.v.now
