@@ -70,5 +70,5 @@ pub aim_grants : (r : Rules) → RulesWithin r → (s : Setting) (named wanted :
 aim_grants r within s named wanted n e = go (aim_answer r within s named wanted) (outcome r within s named wanted) e
   where
     go : (a : Answer) → Outcome r within s named wanted a → a ≡ Found n → (n ≡ length (route r s (errand_of named wanted))) × AimGranted r s named wanted
-    go a (inl h) d = absurd (let z : ◌≡◌ {A = ℕ} 0 1 = (let p = h.1 in cc) in omega arith)
+    go a (inl h) d = let p = h.1 in cc
     go a (inr h) d = ((let p = h.0 in cc), h.1)
