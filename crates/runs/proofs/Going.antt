@@ -33,7 +33,7 @@ module _ (r : Rules) (s : Setting) (ks : List ℕ) (i : ℕ) (w : Errand) (start
   rest = subst (λ js. Leads r js s way.end) (drop-cons ks i 0 way.more ∙ ap (λ j. next_move ∷ drop j ks) (sym (add-one i))) way.leads
 
   lands : rest.0 ≡ next_setting
-  lands = rest.1.0.1.1.1 ∙ sym (ap (λ o. thrown_by o s) rest.1.0.1.0)
+  lands = search rules
 
   -- it is legal
   pub throws_next : Throws r next_move s next_setting

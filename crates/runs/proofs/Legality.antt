@@ -1,9 +1,9 @@
 -- The tests of the panel and of a move say what is meant.
-use Rattle.std.proofs.Common.{◌≡◌, Bool, true, not, ◌≢◌, ◌↔◌, length, refl, ap, inl, inr, arith, rules}
+use Rattle.std.proofs.Common.{◌≡◌, Bool, true, not, ◌≢◌, ◌↔◌, length, refl, inl, inr, arith, rules}
 use mathlib.Core.Bool.{beq}
 use Rattle.std.proofs.lemmas.Bool.{both_ways, cases_Bool, cases_lt, and_parts, and_from, not-true, not_from_false, eqb-true, eq-eqb}
 use Rattle.theory.specs.Searches.{In}
-use Rattle.theory.specs.Tasks.{Ask, any, at_zero, at_one, Met, asked?}
+use Rattle.theory.specs.Tasks.{Ask, any, at_zero, at_one, Met}
 use Rattle.theory.proofs.Searches.{all_below_true, all_below_from, beq_true, beq_from}
 use Rattle.rules.specs.Rules.{Rule, Rules, Setting, at, Legal, RulesWithin}
 use Rattle.rules.proofs.Naming.{names_meant}

@@ -1,12 +1,10 @@
 -- The refusals of an aim and of a nudge made while the model rests say what they should.
-use Rattle.std.proofs.Common.{◌≡◌, ℕ, Bool, true, false, ◌↔◌, length, sym, refl, ap, ◌∙◌, subst, rules}
+use Rattle.std.proofs.Common.{◌≡◌, ℕ, Bool, true, false, ◌↔◌, length, sym, refl, ap, subst, rules}
 use mathlib.Core.Option.{Option, none, some}
 use lib.ListN.{get_elem?}
-use Rattle.std.proofs.lemmas.Bool.{both_ways}
 use Rattle.words.specs.declared.LatchSet.{LatchSet}
 use Rattle.theory.specs.Class.{in_class?}
 use Rattle.theory.specs.Route.{no_way?}
-use Rattle.theory.proofs.Searches.{none≢some}
 use Rattle.theory.proofs.Meant.{class_is_meant}
 use Rattle.rules.specs.Rules.{Rule, Rules, Setting, Legal, RulesWithin}
 use Rattle.rules.specs.NormalForm.{task, route}

@@ -9,7 +9,7 @@ use Rattle.theory.specs.Route.{no_way?}
 use Rattle.theory.specs.Bound.{longest}
 use Rattle.theory.proofs.Meant.{class_is_meant}
 use Rattle.rules.specs.declared.refusal.Refusal.{Refusal}
-use Rattle.rules.specs.declared.refusal.Refusal.TheVariants.{Misfit, Misnamed, Outside, NoWay, Running}
+use Rattle.rules.specs.declared.refusal.Refusal.TheVariants.{NoWay, Running}
 use Rattle.rules.specs.Rules.{Rule, Rules, Errand, Setting, Leads, MetBy, Way, RulesWithin, ErrandWithin}
 use Rattle.rules.specs.NormalForm.{task, route}
 use Rattle.rules.specs.Naming.{errand_of, Names, names?}
@@ -137,10 +137,8 @@ module _ (r : Rules) (within : RulesWithin r) (s : Setting) where
     }
 
     pub follows_aim : (a : Answer) → Outcome a → Follows r s (opened (route r s w) a) (follow_aim w s a idle)
-    follows_aim a (inl h) = subst (λ b. Follows r s (opened (route r s w) b) (follow_aim w s b idle)) (sym h.1) tt
-    follows_aim a (inr h) =
-        subst (λ b. Follows r s (opened (route r s w) b) (follow_aim w s b idle)) (sym h.0)
-        (opened_so (route r s w) h.1.end refl h.1.leads h.1.met)
+    follows_aim a (inl h) = search rules
+    follows_aim a (inr h) = search rules
 
     pub aim_resting : Kept r idle (shown r s resting (Aim named wanted))
     aim_resting = record {

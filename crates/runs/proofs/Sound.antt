@@ -1,5 +1,5 @@
 -- What holds of the model after any calls: while a run is under way, its next move is legal and the rest of its route does its errand.
-use Rattle.std.proofs.Common.{◌≡◌, ℕ, List, [], ◌∷◌, length, get_or, sym, subst, inl, inr, arith}
+use Rattle.std.proofs.Common.{◌≡◌, ℕ, List, [], ◌∷◌, length, get_or, sym, subst, inl, inr}
 use lib.ListN.{get_elem?}
 use Rattle.words.specs.declared.LatchSet.{LatchSet}
 use Rattle.rules.specs.Rules.{Rules, Errand, Setting, Throws, RulesWithin}

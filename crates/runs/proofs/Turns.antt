@@ -1,12 +1,8 @@
 -- What holds of the model between calls, and what is asked of one call.
 use Rattle.std.proofs.Common.{◌≡◌, ℕ, ◌<◌, List, length, get_or, drop}
-use Rattle.rules.specs.Refusals.{refusal_number}
 use Rattle.rules.specs.Rules.{Rules, Errand, Setting, Leads, MetBy}
 use Rattle.rules.specs.NormalForm.{route}
 use Rattle.runs.specs.declared.Call.{Call}
-use Rattle.runs.specs.declared.Call.TheVariants.{Aim, Step, Nudge, Stop}
-use Rattle.runs.specs.declared.Answer.{Answer}
-use Rattle.runs.specs.declared.Answer.TheVariants.{Found, Threw, Done, Declined}
 use Rattle.runs.specs.Calls.{Seen, Turn, idle, under_way}
 use Rattle.runs.specs.Model.{Progress, resting, running, seen_of}
 use Rattle.runs.specs.Law.{Finds, Throwing, Finishes, InTurn, Refuses}
