@@ -1,5 +1,5 @@
 -- A call made while a run is under way keeps the law, and leaves the model on its way or resting.
-use Rattle.std.proofs.Common.{◌≡◌, ℕ, zero, suc, ◌+◌, ◌-◌, List, [], ◌∷◌, length, get_or, drop, sym, refl, ap, ◌∙◌, subst, add-one, arith, drop_of_length-le, drop-cons}
+use Rattle.std.proofs.Common.{◌≡◌, ℕ, zero, suc, ◌+◌, ◌-◌, List, [], ◌∷◌, length, get_or, drop, sym, refl, ap, ◌∙◌, subst, add-one, arith, rules, drop_of_length-le, drop-cons}
 use lib.ListN.{get_elem?}
 use Rattle.words.specs.declared.LatchSet.{LatchSet}
 use Rattle.rules.specs.Rules.{Rules, Errand, Setting, Throws, Leads, MetBy}
@@ -8,40 +8,18 @@ use Rattle.runs.specs.declared.Answer.TheVariants.{Threw}
 use Rattle.runs.specs.Calls.{under_way, follow_step}
 use Rattle.runs.specs.Model.{running, thrown_by, going_on}
 use Rattle.runs.proofs.Places.{element_there}
-use Rattle.runs.proofs.Turns.{kind, OnTheWay, Follows, Kept, shown}
+use Rattle.runs.proofs.Turns.{OnTheWay, Follows, Kept, shown}
 
 module _ (r : Rules) (s : Setting) (ks : List ℕ) (i : ℕ) (w : Errand) (start : Setting) (n : ℕ) (way : OnTheWay r s ks i w start n) where
   -- an aim or a nudge is declined, a stop granted
   pub aim_running : (named wanted : LatchSet) → Kept r (under_way w start n) (shown r s (running ks i) (Aim named wanted))
-  aim_running named wanted = record {
-    finds = tt;
-    throws = refl;
-    finishes = λ e. absurd (omega (arith, ap kind e));
-    in_turn = record { aim = λ a b e. refl; nudge = λ k e. refl; stop = λ e. absurd (omega (arith, ap kind e)) };
-    refuses = tt;
-  }
+  aim_running named wanted = search rules
 
   pub nudge_running : (k : ℕ) → Kept r (under_way w start n) (shown r s (running ks i) (Nudge k))
-  nudge_running k = record {
-    finds = tt;
-    throws = refl;
-    finishes = λ e. absurd (omega (arith, ap kind e));
-    in_turn = record { aim = λ a b e. refl; nudge = λ j e. refl; stop = λ e. absurd (omega (arith, ap kind e)) };
-    refuses = tt;
-  }
+  nudge_running k = search rules
 
   pub stop_running : Kept r (under_way w start n) (shown r s (running ks i) Stop)
-  stop_running = record {
-    finds = tt;
-    throws = refl;
-    finishes = λ e. absurd (omega (arith, ap kind e));
-    in_turn = record {
-      aim = λ a b e. absurd (omega (arith, ap kind e));
-      nudge = λ k e. absurd (omega (arith, ap kind e));
-      stop = λ e. refl;
-    };
-    refuses = tt;
-  }
+  stop_running = search rules
 
   -- the number of the next move of the route
   abbrev pub next_move : ℕ
@@ -55,7 +33,7 @@ module _ (r : Rules) (s : Setting) (ks : List ℕ) (i : ℕ) (w : Errand) (start
   rest = subst (λ js. Leads r js s way.end) (drop-cons ks i 0 way.more ∙ ap (λ j. next_move ∷ drop j ks) (sym (add-one i))) way.leads
 
   lands : rest.0 ≡ next_setting
-  lands = rest.1.0.1.1.1 ∙ sym (ap (λ o. thrown_by o s) rest.1.0.1.0)
+  lands = search rules
 
   -- it is legal
   pub throws_next : Throws r next_move s next_setting
@@ -83,9 +61,9 @@ module _ (r : Rules) (s : Setting) (ks : List ℕ) (i : ℕ) (w : Errand) (start
       finished = met_at_end;
     };
     in_turn = record {
-      aim = λ a b e. absurd (omega (arith, ap kind e));
-      nudge = λ k e. absurd (omega (arith, ap kind e));
-      stop = λ e. absurd (omega (arith, ap kind e));
+      aim = λ a b e. cc;
+      nudge = λ k e. cc;
+      stop = λ e. cc;
     };
     refuses = tt;
   }

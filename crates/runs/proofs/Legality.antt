@@ -1,9 +1,9 @@
 -- The tests of the panel and of a move say what is meant.
-use Rattle.std.proofs.Common.{◌≡◌, Bool, true, not, ◌≢◌, ◌↔◌, length, refl, ap, inl, inr, arith}
+use Rattle.std.proofs.Common.{◌≡◌, Bool, true, not, ◌≢◌, ◌↔◌, length, refl, inl, inr, arith, rules}
 use mathlib.Core.Bool.{beq}
 use Rattle.std.proofs.lemmas.Bool.{both_ways, cases_Bool, cases_lt, and_parts, and_from, not-true, not_from_false, eqb-true, eq-eqb}
 use Rattle.theory.specs.Searches.{In}
-use Rattle.theory.specs.Tasks.{Ask, any, at_zero, at_one, Met, asked?}
+use Rattle.theory.specs.Tasks.{Ask, any, at_zero, at_one, Met}
 use Rattle.theory.proofs.Searches.{all_below_true, all_below_from, beq_true, beq_from}
 use Rattle.rules.specs.Rules.{Rule, Rules, Setting, at, Legal, RulesWithin}
 use Rattle.rules.proofs.Naming.{names_meant}
@@ -16,19 +16,19 @@ fits_meant r s = (eqb-true (length s) r.latches, eq-eqb (length s) r.latches)
 
 met_true : (a : Ask) (b : Bool) → met? a b ≡ true → Met a b
 met_true any b h = tt
-met_true at_zero b h = not-true b h
+met_true at_zero b h = search rules
 met_true at_one b h = h
 
 true_met : (a : Ask) (b : Bool) → Met a b → met? a b ≡ true
 true_met any b h = refl
-true_met at_zero b h = not_from_false b h
+true_met at_zero b h = search rules
 true_met at_one b h = h
 
 -- nothing is asked of what is not one of the book's latches
 unasked : (a : Ask) (b : Bool) → (a ≢ any → ⊥) → Met a b
 unasked any b h = tt
-unasked at_zero b h = absurd (h (λ e. both_ways true (ap asked? e) refl))
-unasked at_one b h = absurd (h (λ e. both_ways true (ap asked? e) refl))
+unasked at_zero b h = search rules
+unasked at_one b h = search rules
 
 module _ (r : Rules) (within : RulesWithin r) (s : Setting) (m : Rule) (i : In r.moves m) where
   legal_true : legal? r s m ≡ true → Legal s m

@@ -1,9 +1,8 @@
 -- Elements at the places of a list.
-use Rattle.std.proofs.Common.{◌≡◌, ℕ, zero, suc, ◌<◌, ◌≤◌, Bool, true, false, ltb, List, [], ◌∷◌, length, get_or, sym, refl, arith}
+use Rattle.std.proofs.Common.{◌≡◌, ℕ, zero, suc, ◌<◌, ◌≤◌, Bool, true, false, ltb, List, [], ◌∷◌, length, get_or, refl, arith}
 use mathlib.Core.Option.{Option, none, some}
 use lib.ListN.{get_elem?}
 use Rattle.std.proofs.lemmas.Bool.{lt-ltb, le-ltb}
-use Rattle.theory.proofs.Searches.{none≢some}
 use Rattle.rules.specs.Rules.{Rules, Setting, Leads}
 
 -- a place that the list has
@@ -14,14 +13,14 @@ element_there (y ∷ xs) (suc i) x l = element_there xs i x (omega arith)
 
 -- where there is an element, the list has the place
 pub place_below : {A : Type 0} (xs : List A) (i : ℕ) (x : A) → get_elem? xs i ≡ some x → i < length xs
-place_below [] i x e = absurd (none≢some e)
+place_below [] i x e = cc
 place_below (y ∷ xs) zero x e = omega arith
 place_below (y ∷ xs) (suc i) x e = let l = place_below xs i x e in omega arith
 
 -- where there is none, it does not
 pub place_past : {A : Type 0} (xs : List A) (i : ℕ) → get_elem? xs i ≡ none → length xs ≤ i
 place_past [] i e = omega arith
-place_past (y ∷ xs) zero e = absurd (none≢some (sym e))
+place_past (y ∷ xs) zero e = cc
 place_past (y ∷ xs) (suc i) e = let l = place_past xs i e in omega arith
 
 -- there is an element

@@ -1,12 +1,10 @@
 -- The refusals of an aim and of a nudge made while the model rests say what they should.
-use Rattle.std.proofs.Common.{◌≡◌, ℕ, Bool, true, false, ◌↔◌, length, sym, refl, ap, ◌∙◌, subst, arith}
+use Rattle.std.proofs.Common.{◌≡◌, ℕ, Bool, true, false, ◌↔◌, length, sym, refl, ap, subst, rules}
 use mathlib.Core.Option.{Option, none, some}
 use lib.ListN.{get_elem?}
-use Rattle.std.proofs.lemmas.Bool.{both_ways}
 use Rattle.words.specs.declared.LatchSet.{LatchSet}
 use Rattle.theory.specs.Class.{in_class?}
 use Rattle.theory.specs.Route.{no_way?}
-use Rattle.theory.proofs.Searches.{none≢some}
 use Rattle.theory.proofs.Meant.{class_is_meant}
 use Rattle.rules.specs.Rules.{Rule, Rules, Setting, Legal, RulesWithin}
 use Rattle.rules.specs.NormalForm.{task, route}
@@ -20,35 +18,15 @@ use Rattle.runs.specs.Model.{resting, answered_resting}
 use Rattle.runs.specs.Law.{AimRefused, NudgeRefused, Refuses}
 use Rattle.runs.proofs.Places.{there, below_there}
 use Rattle.runs.proofs.Legality.{fits_meant, legal_meant}
-use Rattle.runs.proofs.Turns.{code, shown}
+use Rattle.runs.proofs.Turns.{shown}
 
 -- the answer to an aim, where each test says what is meant
 aim_refused : {F N C : Type 0} (f n c b : Bool) (l : ℕ) → (f ≡ true) ↔ F → (n ≡ true) ↔ N → (N → (c ≡ true) ↔ C) → AimRefused F N C (aimed f n c b l)
-aim_refused false n c b l hf hn hc = record {
-  misfit = ((λ e h. both_ways false refl (hf.1 h)), λ h. refl);
-  misnamed = λ h. absurd (both_ways false refl (hf.1 h));
-  outside = λ h. absurd (both_ways false refl (hf.1 h));
-}
-aim_refused true false c b l hf hn hc = record {
-  misfit = ((λ e. absurd (omega (arith, ap code e))), λ h. absurd (h (hf.0 refl)));
-  misnamed = λ h. ((λ e k. both_ways false refl (hn.1 k)), λ k. refl);
-  outside = λ h k. absurd (both_ways false refl (hn.1 k));
-}
-aim_refused true true false b l hf hn hc = record {
-  misfit = ((λ e. absurd (omega (arith, ap code e))), λ h. absurd (h (hf.0 refl)));
-  misnamed = λ h. ((λ e. absurd (omega (arith, ap code e))), λ k. absurd (k (hn.0 refl)));
-  outside = λ h k. ((λ e j. both_ways false refl ((hc k).1 j)), λ j. refl);
-}
-aim_refused true true true true l hf hn hc = record {
-  misfit = ((λ e. absurd (omega (arith, ap code e))), λ h. absurd (h (hf.0 refl)));
-  misnamed = λ h. ((λ e. absurd (omega (arith, ap code e))), λ k. absurd (k (hn.0 refl)));
-  outside = λ h k. ((λ e. absurd (omega (arith, ap code e))), λ j. absurd (j ((hc k).0 refl)));
-}
-aim_refused true true true false l hf hn hc = record {
-  misfit = ((λ e. absurd (omega (arith, ap code e))), λ h. absurd (h (hf.0 refl)));
-  misnamed = λ h. ((λ e. absurd (omega (arith, ap code e))), λ k. absurd (k (hn.0 refl)));
-  outside = λ h k. ((λ e. absurd (omega (arith, ap code e))), λ j. absurd (j ((hc k).0 refl)));
-}
+aim_refused false n c b l hf hn hc = search rules
+aim_refused true false c b l hf hn hc = search rules
+aim_refused true true false b l hf hn hc = search rules
+aim_refused true true true true l hf hn hc = search rules
+aim_refused true true true false l hf hn hc = search rules
 
 -- the answer to a nudge while resting, by the move at its place
 pub nudge_answer : (r : Rules) (s : Setting) (k : ℕ) →
@@ -66,38 +44,12 @@ module _ (r : Rules) (within : RulesWithin r) (s : Setting) where
   module _ (k : ℕ) {F : Type 0} where
     -- the answer to a nudge at a move of the book
     legal_refused : (b : Bool) (m : Rule) → get_elem? r.moves k ≡ some m → (b ≡ true) ↔ Legal s m → F → NudgeRefused r s k F (nudged true true b)
-    legal_refused true m e hl f = record {
-      misfit = ((λ d. absurd (omega (arith, ap code d))), λ h. absurd (h f));
-      no_such_move = λ h. ((λ d. absurd (omega (arith, ap code d))), λ d. absurd (none≢some (sym d ∙ e)));
-      illegal = λ h m' e'. ((λ d. absurd (omega (arith, ap code d))), λ no_legal. absurd (no_legal (subst (Legal s) (same m' e') (hl.0 refl))));
-      granted = λ h m' e' l. refl;
-    }
-      where
-        same : (m' : Rule) → get_elem? r.moves k ≡ some m' → m ≡ m'
-        same m' e' = cc
-    legal_refused false m e hl f = record {
-      misfit = ((λ d. absurd (omega (arith, ap code d))), λ h. absurd (h f));
-      no_such_move = λ h. ((λ d. absurd (omega (arith, ap code d))), λ d. absurd (none≢some (sym d ∙ e)));
-      illegal = λ h m' e'. ((λ d l. both_ways false refl (hl.1 (subst (Legal s) (same m' e') l))), λ j. refl);
-      granted = λ h m' e' l. absurd (both_ways false refl (hl.1 (subst (Legal s) (same m' e') l)));
-    }
-      where
-        same : (m' : Rule) → get_elem? r.moves k ≡ some m' → m' ≡ m
-        same m' e' = cc
+    legal_refused true m e hl f = search rules
+    legal_refused false m e hl f = search rules
 
     nudge_refused : (f : Bool) (o : Option Rule) → get_elem? r.moves k ≡ o → (f ≡ true) ↔ F → NudgeRefused r s k F (nudged f (there o) (legal_at? r s o))
-    nudge_refused false o e hf = record {
-      misfit = ((λ d h. both_ways false refl (hf.1 h)), λ h. refl);
-      no_such_move = λ h. absurd (both_ways false refl (hf.1 h));
-      illegal = λ h. absurd (both_ways false refl (hf.1 h));
-      granted = λ h. absurd (both_ways false refl (hf.1 h));
-    }
-    nudge_refused true none e hf = record {
-      misfit = ((λ d. absurd (omega (arith, ap code d))), λ h. absurd (h (hf.0 refl)));
-      no_such_move = λ h. ((λ d. e), λ d. refl);
-      illegal = λ h m e'. absurd (none≢some (sym e ∙ e'));
-      granted = λ h m e'. absurd (none≢some (sym e ∙ e'));
-    }
+    nudge_refused false o e hf = search rules
+    nudge_refused true none e hf = search rules
     nudge_refused true (some m) e hf =
         legal_refused (legal? r s m) m e (legal_meant r within s m (found_in r.moves k m e)) (hf.0 refl)
 

@@ -1,5 +1,5 @@
 -- A call made while the model rests keeps the law, and an aim that finds a route leaves it on its way.
-use Rattle.std.proofs.Common.{◌≡◌, ℕ, ◌<◌, ◌≤◌, Bool, true, false, ◌≢◌, ◌⊎◌, List, [], ◌∷◌, length, get_or, sym, refl, ap, ◌∙◌, subst, subst₂, inl, inr, arith}
+use Rattle.std.proofs.Common.{◌≡◌, ℕ, ◌<◌, ◌≤◌, Bool, true, false, ◌≢◌, ◌⊎◌, List, [], ◌∷◌, length, get_or, sym, refl, ap, ◌∙◌, subst, subst₂, inl, inr, arith, rules}
 use mathlib.Core.Option.{Option, none, some}
 use lib.ListN.{get_elem?}
 use Rattle.words.specs.declared.LatchSet.{LatchSet}
@@ -9,8 +9,7 @@ use Rattle.theory.specs.Route.{no_way?}
 use Rattle.theory.specs.Bound.{longest}
 use Rattle.theory.proofs.Meant.{class_is_meant}
 use Rattle.rules.specs.declared.refusal.Refusal.{Refusal}
-use Rattle.rules.specs.declared.refusal.Refusal.TheVariants.{Misfit, Misnamed, Outside, NoWay, Running}
-use Rattle.rules.specs.Refusals.{refusal_number}
+use Rattle.rules.specs.declared.refusal.Refusal.TheVariants.{NoWay, Running}
 use Rattle.rules.specs.Rules.{Rule, Rules, Errand, Setting, Leads, MetBy, Way, RulesWithin, ErrandWithin}
 use Rattle.rules.specs.NormalForm.{task, route}
 use Rattle.rules.specs.Naming.{errand_of, Names, names?}
@@ -27,7 +26,7 @@ use Rattle.runs.specs.Law.{Finding, Throwing}
 use Rattle.runs.proofs.Places.{there, leads_below}
 use Rattle.runs.proofs.Legality.{fits_meant, legal_meant}
 use Rattle.runs.proofs.Refusing.{aim_refuses, nudge_answer, nudge_refuses}
-use Rattle.runs.proofs.Turns.{kind, code, Follows, Kept, shown}
+use Rattle.runs.proofs.Turns.{Follows, Kept, shown}
 
 -- what holds where an aim at the errand of two sets is granted
 pub record AimGranted (r : Rules) (s : Setting) (named wanted : LatchSet) : Type 0 where
@@ -74,10 +73,10 @@ module _ (r : Rules) (within : RulesWithin r) (s : Setting) where
         }
 
     outcome_of : (f n c b : Bool) → fits? r s ≡ f → names? r named wanted ≡ n → in_class? (task r s w) ≡ c → no_way? (task r s w) ≡ b → Outcome (aimed f n c b (length (route r s w)))
-    outcome_of false n c b p q t z = inl (Misfit, refl, λ e. omega (arith, ap refusal_number e))
-    outcome_of true false c b p q t z = inl (Misnamed, refl, λ e. omega (arith, ap refusal_number e))
-    outcome_of true true false b p q t z = inl (Outside, refl, λ e. omega (arith, ap refusal_number e))
-    outcome_of true true true true p q t z = inl (NoWay, refl, λ e. omega (arith, ap refusal_number e))
+    outcome_of false n c b p q t z = search rules
+    outcome_of true false c b p q t z = search rules
+    outcome_of true true false b p q t z = search rules
+    outcome_of true true true true p q t z = search rules
     outcome_of true true true false p q t z = inr (refl, granted_so p q t z)
 
     pub outcome : Outcome aim_answer
@@ -93,10 +92,10 @@ module _ (r : Rules) (within : RulesWithin r) (s : Setting) where
         ∙ ap (λ x. aimed true true true x long) z
 
     none_found : (Way r s w → ⊥) → Finding r w s (Declined NoWay)
-    none_found none_way = record { refused = ((λ e. none_way), λ h. refl); granted = λ n. absurd (n refl) }
+    none_found none_way = search rules
 
     route_found : Way r s w → Finding r w s (Found (length (route r s w)))
-    route_found way = record { refused = ((λ e. absurd (omega (arith, ap code e))), λ h. absurd (h way)); granted = λ n. refl }
+    route_found way = search rules
 
     finding : length s ≡ r.latches → Names r named wanted → InClass (task r s w) → Finding r w s aim_answer
     finding l n class = go (no_way? (task r s w)) refl
@@ -115,14 +114,14 @@ module _ (r : Rules) (within : RulesWithin r) (s : Setting) where
     nothing_to_do (k ∷ ks) e l h met = absurd (omega arith)
 
     found_nothing : (a : Answer) → Outcome a → a ≡ Found 0 → MetBy w s
-    found_nothing a (inl h) e = absurd (let z : ◌≡◌ {A = ℕ} 0 1 = (let p = h.1 in cc) in omega arith)
+    found_nothing a (inl h) e = let p = h.1 in cc
     found_nothing a (inr h) e =
         let none_left : length (route r s w) ≡ 0 = (let p = h.0 in cc) in
         nothing_to_do (route r s w) h.1.end none_left h.1.leads h.1.met
 
     not_running : (a : Answer) → Outcome a → a ≢ Declined Running
     not_running a (inl h) e = h.2 (let p = h.1 in cc)
-    not_running a (inr h) e = absurd (omega (arith, ap code (sym h.0 ∙ e)))
+    not_running a (inr h) e = let p = h.0 in cc
 
     -- a route with a move is run
     opened_so : (ks : List ℕ) (e : Setting) → ks ≡ route r s w → Leads r ks s e → MetBy w e → Follows r s (opened ks (Found (length ks))) (follow_aim w s (Found (length ks)) idle)
@@ -138,10 +137,8 @@ module _ (r : Rules) (within : RulesWithin r) (s : Setting) where
     }
 
     pub follows_aim : (a : Answer) → Outcome a → Follows r s (opened (route r s w) a) (follow_aim w s a idle)
-    follows_aim a (inl h) = subst (λ b. Follows r s (opened (route r s w) b) (follow_aim w s b idle)) (sym h.1) tt
-    follows_aim a (inr h) =
-        subst (λ b. Follows r s (opened (route r s w) b) (follow_aim w s b idle)) (sym h.0)
-        (opened_so (route r s w) h.1.end refl h.1.leads h.1.met)
+    follows_aim a (inl h) = search rules
+    follows_aim a (inr h) = search rules
 
     pub aim_resting : Kept r idle (shown r s resting (Aim named wanted))
     aim_resting = record {
@@ -150,8 +147,8 @@ module _ (r : Rules) (within : RulesWithin r) (s : Setting) where
       throws = refl;
       finishes = λ named' wanted' e z. subst₂ (λ a b. MetBy (errand_of a b) s) (same_named e) (same_wanted e) (found_nothing aim_answer outcome z);
       in_turn = record {
-        step = λ e. absurd (omega (arith, ap kind e));
-        stop = λ e. absurd (omega (arith, ap kind e));
+        step = λ e. cc;
+        stop = λ e. cc;
         other = not_running aim_answer outcome;
       };
       refuses = aim_refuses r within s named wanted;
@@ -170,20 +167,20 @@ module _ (r : Rules) (within : RulesWithin r) (s : Setting) where
     NudgedSo a = Throwing r idle (record { call = Nudge k; before = s; answer = a; after = pushed r s k a }) × (a ≢ Declined Running)
 
     nudged_so : (f : Bool) (o : Option Rule) → get_elem? r.moves k ≡ o → NudgedSo (nudged f (there o) (legal_at? r s o))
-    nudged_so false o e = (refl, λ d. omega (arith, ap code d))
-    nudged_so true none e = (refl, λ d. omega (arith, ap code d))
+    nudged_so false o e = search rules
+    nudged_so true none e = search rules
     nudged_so true (some m) e = go (legal? r s m) refl
       where
         go : (b : Bool) → legal? r s m ≡ b → NudgedSo (nudged true true b)
-        go true d = ((m, (e, ((legal_meant r within s m (found_in r.moves k m e)).0 d, ap (λ o. thrown_by o s) e))), λ p. omega (arith, ap code p))
-        go false d = (refl, λ p. omega (arith, ap code p))
+        go true d = ((m, (e, ((legal_meant r within s m (found_in r.moves k m e)).0 d, ap (λ o. thrown_by o s) e))), λ p. cc)
+        go false d = search rules
 
     pub nudge_resting : Kept r idle (shown r s resting (Nudge k))
     nudge_resting = record {
-      finds = λ named wanted e. absurd (omega (arith, ap kind e));
+      finds = λ named wanted e. cc;
       throws = h.0;
-      finishes = λ named wanted e. absurd (omega (arith, ap kind e));
-      in_turn = record { step = λ e. absurd (omega (arith, ap kind e)); stop = λ e. absurd (omega (arith, ap kind e)); other = h.1 };
+      finishes = λ named wanted e. cc;
+      in_turn = record { step = λ e. cc; stop = λ e. cc; other = h.1 };
       refuses = nudge_refuses r within s k;
     }
       where
@@ -192,19 +189,7 @@ module _ (r : Rules) (within : RulesWithin r) (s : Setting) where
 
   -- a step or a stop while resting
   pub step_resting : Kept r idle (shown r s resting Step)
-  step_resting = record {
-    finds = λ named wanted e. absurd (omega (arith, ap kind e));
-    throws = refl;
-    finishes = λ named wanted e. absurd (omega (arith, ap kind e));
-    in_turn = record { step = λ e. refl; stop = λ e. refl; other = λ p. omega (arith, ap code p) };
-    refuses = tt;
-  }
+  step_resting = search rules
 
   pub stop_resting : Kept r idle (shown r s resting Stop)
-  stop_resting = record {
-    finds = λ named wanted e. absurd (omega (arith, ap kind e));
-    throws = refl;
-    finishes = λ named wanted e. absurd (omega (arith, ap kind e));
-    in_turn = record { step = λ e. refl; stop = λ e. refl; other = λ p. omega (arith, ap code p) };
-    refuses = tt;
-  }
+  stop_resting = search rules

@@ -1,5 +1,5 @@
 -- What holds of the model after any calls: while a run is under way, its next move is legal and the rest of its route does its errand.
-use Rattle.std.proofs.Common.{◌≡◌, ℕ, List, [], ◌∷◌, length, get_or, sym, subst, inl, inr, arith}
+use Rattle.std.proofs.Common.{◌≡◌, ℕ, List, [], ◌∷◌, length, get_or, sym, subst, inl, inr}
 use lib.ListN.{get_elem?}
 use Rattle.words.specs.declared.LatchSet.{LatchSet}
 use Rattle.rules.specs.Rules.{Rules, Errand, Setting, Throws, RulesWithin}
@@ -70,5 +70,5 @@ pub aim_grants : (r : Rules) → RulesWithin r → (s : Setting) (named wanted :
 aim_grants r within s named wanted n e = go (aim_answer r within s named wanted) (outcome r within s named wanted) e
   where
     go : (a : Answer) → Outcome r within s named wanted a → a ≡ Found n → (n ≡ length (route r s (errand_of named wanted))) × AimGranted r s named wanted
-    go a (inl h) d = absurd (let z : ◌≡◌ {A = ℕ} 0 1 = (let p = h.1 in cc) in omega arith)
+    go a (inl h) d = let p = h.1 in cc
     go a (inr h) d = ((let p = h.0 in cc), h.1)

@@ -1,29 +1,11 @@
 -- What holds of the model between calls, and what is asked of one call.
 use Rattle.std.proofs.Common.{◌≡◌, ℕ, ◌<◌, List, length, get_or, drop}
-use Rattle.rules.specs.Refusals.{refusal_number}
 use Rattle.rules.specs.Rules.{Rules, Errand, Setting, Leads, MetBy}
 use Rattle.rules.specs.NormalForm.{route}
 use Rattle.runs.specs.declared.Call.{Call}
-use Rattle.runs.specs.declared.Call.TheVariants.{Aim, Step, Nudge, Stop}
-use Rattle.runs.specs.declared.Answer.{Answer}
-use Rattle.runs.specs.declared.Answer.TheVariants.{Found, Threw, Done, Declined}
 use Rattle.runs.specs.Calls.{Seen, Turn, idle, under_way}
 use Rattle.runs.specs.Model.{Progress, resting, running, seen_of}
 use Rattle.runs.specs.Law.{Finds, Throwing, Finishes, InTurn, Refuses}
-
--- numbers that tell calls apart
-abbrev pub kind : Call → ℕ
-kind (Aim named wanted) = 0
-kind Step = 1
-kind (Nudge k) = 2
-kind Stop = 3
-
--- numbers that tell answers apart
-abbrev pub code : Answer → ℕ
-code (Found n) = 0
-code (Threw t) = 1
-code Done = 2
-code (Declined why) = refusal_number why
 
 -- some of the route is left, and the rest leads from the present setting to one that meets the errand
 pub record OnTheWay (r : Rules) (s : Setting) (ks : List ℕ) (i : ℕ) (w : Errand) (start : Setting) (granted : ℕ) : Type 0 where

@@ -1,5 +1,5 @@
 -- What a machine at rest answers to aims and nudges, and what they leave.
-use Rattle.std.proofs.Common.{◌≡◌, ℕ, zero, suc, ◌<◌, Bool, true, false, List, length, get_or, take, Ok, Err, sym, refl, ap, ◌∙◌, subst, arith}
+use Rattle.std.proofs.Common.{◌≡◌, ℕ, zero, suc, ◌<◌, Bool, true, false, List, length, get_or, take, Ok, Err, sym, refl, ap, ◌∙◌, arith}
 use mathlib.Core.Option.{Option, none, some}
 use lib.ListN.{get_elem?}
 use Rattle.std.proofs.lemmas.List.{length-map, length-take-le, get_or-map, get_or-take}
@@ -85,25 +85,27 @@ module _ (b : Book) (shown : Shown) (s : Setting) (w : Shows shown s) (e : shown
   start_is = shown_whole b.latches shown s w (sym w.wide ∙ e)
 
   module _ (named wanted : LatchSet) where
-    aim_answer : answered_resting (rules_of b) s (Aim named wanted)
-        ≡ as_answer (refusal (names? (rules_of b) named wanted) (in_class? (errand_task (rules_of b) s named wanted)) (no_way? (errand_task (rules_of b) s named wanted)))
-        (length (route (rules_of b) s (errand_of named wanted)))
-    aim_answer = ap (λ (f : Bool). aimed f (names? (rules_of b) named wanted) (in_class? (errand_task (rules_of b) s named wanted)) (no_way? (errand_task (rules_of b) s named wanted)) (length (route (rules_of b) s (errand_of named wanted)))) fit ∙ planned_as _ _ _ _
+    -- why there is no route, if there is none, and how long it is
+    abbrev lacking : Option Refusal
+    lacking =
+        let t = errand_task (rules_of b) s named wanted in
+        refusal (names? (rules_of b) named wanted) (in_class? t) (no_way? t)
+
+    abbrev long : ℕ
+    long = length (route (rules_of b) s (errand_of named wanted))
+
+    aim_answer : answered_resting (rules_of b) s (Aim named wanted) ≡ as_answer lacking long
+    aim_answer = rw fit (planned_as _ _ _ _)
 
     pub aim_declined : (why : Refusal) → Planned (rules_of b) (setting_of b.latches shown.raised) named wanted (Err why) →
         answered_resting (rules_of b) s (Aim named wanted) ≡ Declined why
-    aim_declined why h =
-        let there = subst (λ (z : Setting). Planned (rules_of b) z named wanted (Err why)) start_is h in
-        aim_answer ∙ ap (λ (o : Option Refusal). as_answer o (length (route (rules_of b) s (errand_of named wanted)))) there
+    aim_declined why h = aim_answer ∙ ap (λ (o : Option Refusal). as_answer o long) (rw start_is at h)
 
     pub aim_found : (p : Route) → Planned (rules_of b) (setting_of b.latches shown.raised) named wanted (Ok p) →
         (answered_resting (rules_of b) s (Aim named wanted) ≡ Found (length (moves_of p))) × (moves_of p ≡ route (rules_of b) s (errand_of named wanted))
     aim_found p h =
-        let there = subst (λ (z : Setting). Planned (rules_of b) z named wanted (Ok p)) start_is h in (
-          aim_answer ∙ ap (λ (o : Option Refusal). as_answer o (length (route (rules_of b) s (errand_of named wanted)))) there.0
-              ∙ ap (λ (ks : List ℕ). Found (length ks)) (sym there.1),
-          there.1,
-        )
+        let there = rw start_is at h in
+        (aim_answer ∙ ap (λ (o : Option Refusal). as_answer o long) there.0 ∙ ap (λ (ks : List ℕ). Found (length ks)) (sym there.1), there.1)
 
   pub nudge_answer : (k : ℕ) → k < b.count → answered_resting (rules_of b) s (Nudge k) ≡ nudged true true (legal? (rules_of b) s (rule_of (move_at b.moves k)))
   nudge_answer k l = rw (fit, lt-ltb k (length (rules_of b).moves) (omega (arith, rules_count b)), rule_there b k l) refl
