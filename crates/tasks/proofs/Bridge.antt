@@ -1,5 +1,5 @@
 -- Books, starts and errands as they are kept speak of the book's own latches.
-use Rattle.std.proofs.Common.{◌≡◌, ℕ, zero, suc, ◌<◌, Bool, true, false, cond, ◌≢◌, List, [], ◌∷◌, map, length, get_or, take, sym, ap, ◌∙◌, subst, inl, inr, arith}
+use Rattle.std.proofs.Common.{◌≡◌, ℕ, zero, suc, ◌<◌, Bool, true, false, cond, ◌≢◌, List, [], ◌∷◌, map, length, get_or, take, sym, refl, ap, ◌∙◌, subst, inl, inr, arith}
 use mathlib.Core.Option.{none, some}
 use Rattle.std.proofs.lemmas.List.FromFn.{length-map-range_with_len, get_or-map-range_with_len}
 use Rattle.std.proofs.lemmas.Bool.{cases_Bool}
@@ -9,7 +9,7 @@ use Rattle.book.specs.declared.book.Book.{Book}
 use Rattle.book.specs.declared.partial.PartialSetting.{PartialSetting}
 use Rattle.book.specs.Places.{move_at, no_move}
 use Rattle.theory.specs.Searches.{In}
-use Rattle.theory.specs.Tasks.{Ask, any, ask_for}
+use Rattle.theory.specs.Tasks.{Ask, any, ask_for, asked?}
 use Rattle.rules.specs.Rules.{Rule, at, RulesWithin, ErrandWithin}
 use Rattle.rules.specs.NormalForm.{exchanged_ask}
 use Rattle.tasks.specs.Asks.{ask_from, asks_of, rule_of, rules_of, setting_of}
@@ -37,6 +37,15 @@ named_asked p u e a = not_any (has p.ones u) (sym (ap (λ (b : Bool). ask_from (
     not_any : (b : Bool) → ask_for b ≢ any
     not_any true h = let z : ◌≡◌ {A = ℕ} 0 1 = cc in omega arith
     not_any false h = let z : ◌≡◌ {A = ℕ} 0 1 = cc in omega arith
+
+-- as the test says
+pub asked_is_named : (p : PartialSetting) (u : ℕ) → asked? (asks_of p u) ≡ has p.named u
+asked_is_named p u = go (has p.named u) (has p.ones u)
+  where
+    go : (a b : Bool) → asked? (ask_from (cond a (some b) none)) ≡ a
+    go true true = refl
+    go true false = refl
+    go false b = refl
 
 -- a set of the first n latches asks of those alone
 pub asks_below : (n : ℕ) (p : PartialSetting) → Below n p.named → (u : ℕ) → asks_of p u ≢ any → u < n

@@ -1,7 +1,6 @@
 -- The task that a record stands for is well formed.
-use Rattle.std.proofs.Common.{◌≡◌, ℕ, zero, suc, ◌<◌, Bool, true, false, cond, not, ◌≢◌, List, [], ◌∷◌, map, get_or, take, sym, refl, ap, ◌∙◌, subst, inl, inr, arith}
+use Rattle.std.proofs.Common.{◌≡◌, ℕ, ◌<◌, true, cond, ◌≢◌, sym, ap, ◌∙◌, subst}
 use mathlib.Core.Option.{some, none}
-use Rattle.std.proofs.lemmas.Bool.{cases_Bool}
 use Rattle.words.specs.Sets.{has}
 use Rattle.book.specs.declared.partial.PartialSetting.{PartialSetting}
 use Rattle.theory.specs.Searches.{In}
@@ -10,31 +9,12 @@ use Rattle.tasks.specs.declared.task.NormalTask.{NormalTask}
 use Rattle.tasks.specs.Asks.{ask_from, asks_of}
 use Rattle.tasks.specs.Places.{no_move, move_at}
 use Rattle.tasks.specs.Tasks.{move_of, moves_of, task_of}
-
--- an element of what is made from the first n has a place below n
-placed :
-    {A B : Type 0} (f : A → B) (d : A) (n : ℕ) (xs : List A) (y : B) →
-    In (map f (take n xs)) y → (k : ℕ) × ((k < n) × (f (get_or xs k d) ≡ y))
-placed f d zero xs y i = absurd i
-placed f d (suc n) [] y i = absurd i
-placed f d (suc n) (x ∷ xs) y (inl e) = (0, (omega arith, e))
-placed f d (suc n) (x ∷ xs) y (inr i) = let r = placed f d n xs y i in (suc r.0, (omega (arith, r.1.0), r.1.1))
-
--- what is asked is named
-asked_named : (p : PartialSetting) (u : ℕ) → asks_of p u ≢ any → has p.named u ≡ true
-asked_named p u n =
-    elim (cases_Bool (has p.named u)) [
-      | inl e ↦ e
-      | inr e ↦ absurd (n (ap (λ b. ask_from (cond b (some (has p.ones u)) none)) e))
-    ]
+use Rattle.tasks.proofs.Bridge.{asked_named, place_of}
+use Rattle.tasks.proofs.NormalFormMoves.{for_opposite}
 
 -- a latch that is named is asked to be where the ones say
 named_asked : (p : PartialSetting) (u : ℕ) → has p.named u ≡ true → asks_of p u ≡ ask_for (has p.ones u)
 named_asked p u e = ap (λ b. ask_from (cond b (some (has p.ones u)) none)) e
-
-against : (b : Bool) → ask_for (not b) ≡ ask_against b
-against true = refl
-against false = refl
 
 pub well_formed : (t : NormalTask) → WellFormed (task_of t)
 well_formed t = record {
@@ -52,7 +32,7 @@ well_formed t = record {
 }
   where
     place : (m : Move) → In (moves_of t) m → (k : ℕ) × ((k < t.count) × (move_of (move_at t.moves k) ≡ m))
-    place m i = placed move_of no_move t.count t.moves m i
+    place m i = place_of move_of no_move t.moves t.count m i
 
     own :
         (k : ℕ) → k < t.count →
@@ -60,4 +40,4 @@ well_formed t = record {
     own k l =
         named_asked (move_at t.moves k).asks (move_at t.moves k).latch (t.asks_own k l)
         ∙ ap ask_for (t.opposite k l)
-        ∙ against (move_at t.moves k).to
+        ∙ for_opposite (move_at t.moves k).to

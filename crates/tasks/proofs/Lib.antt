@@ -1,7 +1,7 @@
 pub mod Bridge
+pub mod Chains
 pub mod Circles
 pub mod ClassFormed
-pub mod ClassTold
 pub mod Found
 pub mod KindsAlike
 pub mod NormalFormAsks

@@ -1,10 +1,10 @@
 -- Conditions brought to normal form latch by latch.
-use Rattle.std.proofs.Common.{◌≡◌, ℕ, ◌+◌, ◌<◌, ◌≤◌, Bool, true, false, cond, ◌&&◌, ◌||◌, eqb, ltb, ◌≢◌, sym, refl, ap, ◌∙◌, inl, inr, arith}
+use Rattle.std.proofs.Common.{◌≡◌, ℕ, ◌+◌, ◌<◌, Bool, true, false, cond, ◌&&◌, ◌||◌, eqb, ltb, ◌≢◌, sym, refl, ap, ◌∙◌, inl, inr, arith}
 use mathlib.Core.Option.{none, some}
 use Rattle.std.proofs.lemmas.Bool.{cases_eq, eq-eqb, ne_eqb, lt-ltb, and_from, and_parts, and_right, or_right}
 use Rattle.std.proofs.lemmas.Bool.Decides.{nat_tests}
 use Rattle.words.specs.declared.LatchSet.{LatchSet}
-use Rattle.words.specs.Sets.{most_latches, no_latch, has, has_with, Below}
+use Rattle.words.specs.Sets.{most_latches, no_latch, has, has_with}
 use Rattle.words.proofs.Members.{no_member}
 use Rattle.book.specs.declared.partial.PartialSetting.{PartialSetting}
 use Rattle.theory.specs.Tasks.{ask_for}
@@ -55,13 +55,6 @@ module _ (test : ℕ → Bool) where
         | inr ne ↦ so_far u ∙ ap (λ (b : Bool). b && test u) (below_more u i ne)
       ]
 
--- where all latches are tried, those at 1 are named
-pub ones_named :
-    (p : PartialSetting) (start ones : LatchSet) (i : ℕ) → PassedUntil i (normal_one p start) ones →
-    (u : ℕ) → has ones u ≡ true → has p.named u ≡ true
-ones_named p start ones i all u h =
-    (and_parts (has p.named u) _ (and_parts (ltb u i) (normal_one p start u) (sym (all u) ∙ h)).1).0
-
 -- the ask, in normal form, for a position of a latch that is named or not
 asked_normal :
     (named y start z : Bool) → (named ≡ true → z ≡ exchanged y start) →
@@ -73,15 +66,16 @@ asked_normal true y start z h = ap ask_for (h refl) ∙ exchanged_for y start
     exchanged_for true start = refl
     exchanged_for false start = refl
 
--- then each condition is in normal form
-pub asks_normal :
-    (p : PartialSetting) (start ones : LatchSet) (i : ℕ) → most_latches ≤ i → Below most_latches p.named →
-    PassedUntil i (normal_one p start) ones → (u : ℕ) →
-    ask_from (cond (has p.named u) (some (has ones u)) none) ≡ exchanged_ask (asks_of p u) (has start u)
-asks_normal p start ones i l below all u = asked_normal (has p.named u) (has p.ones u) (has start u) (has ones u) at_one
-  where
-    both : (x y z : Bool) → x ≡ true → y ≡ true → (x && (y && z)) ≡ z
-    both x y z a b = grind (arith, a, b)
+-- where the latches at 1 are those, they are named
+pub ones_named :
+    (p : PartialSetting) (start ones : LatchSet) → ((u : ℕ) → has ones u ≡ normal_one p start u) → (u : ℕ) → has ones u ≡ true → has p.named u ≡ true
+ones_named p start ones one u h = (and_parts (has p.named u) _ (sym (one u) ∙ h)).0
 
+-- and each condition is in normal form
+pub asks_normal :
+    (p : PartialSetting) (start ones : LatchSet) → ((u : ℕ) → has ones u ≡ normal_one p start u) → (u : ℕ) →
+    ask_from (cond (has p.named u) (some (has ones u)) none) ≡ exchanged_ask (asks_of p u) (has start u)
+asks_normal p start ones one u = asked_normal (has p.named u) (has p.ones u) (has start u) (has ones u) at_one
+  where
     at_one : has p.named u ≡ true → has ones u ≡ exchanged (has p.ones u) (has start u)
-    at_one h = all u ∙ both (ltb u i) (has p.named u) _ (lt-ltb u i (omega (arith, below u h))) h
+    at_one h = grind (arith, one u, h)

@@ -17,7 +17,7 @@ use Rattle.tasks.specs.Tasks.{move_of}
 use Rattle.tasks.proofs.Bridge.{setting_at, exchanged_at}
 
 -- the ask for the opposite position is the ask against
-for_opposite : (b : Bool) → ask_for (not b) ≡ ask_against b
+pub for_opposite : (b : Bool) → ask_for (not b) ≡ ask_against b
 for_opposite true = refl
 for_opposite false = refl
 

@@ -179,13 +179,10 @@ module _
   pub brought_task : brought ≡ task (rules_of b) (setting_of b.latches start) (asks_of w)
   brought_task = λ j. record { width = b.latches; moves = all.same j; want = wanted j }
 
-  well : WellFormed brought
-  well =
+  pub brought_well : WellFormed brought
+  brought_well =
       subst WellFormed (sym brought_task)
       (task_well_formed (rules_of b) (book_within b) (setting_of b.latches start) (asks_of w) (want_within b w below))
-
-  pub brought_bound : (b.latches ≤ most_latches) × ((count ≤ most_moves) × ((length moves ≡ most_moves) × WellFormed brought))
-  brought_bound = (b.few, (omega (arith, b.room, all.fewer), (all.places, well)))
 
 -- the move at a place is one of the list
 place_in : {X Y : Type 0} (f : X → Y) (d : X) (xs : List X) (n k : ℕ) → k < n → n ≤ length xs → In (map f (take n xs)) (f (get_or xs k d))

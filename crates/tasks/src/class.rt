@@ -1,7 +1,7 @@
 //! The class of a task: circles in its causal graph, and the two sides of a latch.
 ghost use Rattle.std.specs.Prelude.{◌≡◌, ℕ, true, not, ◌&&◌, ◌||◌};
 ghost use Rattle.words.specs.Sets.{has};
-ghost use Rattle.theory.specs.Class.{edge?, acyclic?, static?, reversible?, dependent?, cut?, link?, side?, splitting?, in_class?};
+ghost use Rattle.theory.specs.Class.{edge?, walk?, acyclic?, static?, reversible?, dependent?, cut?, link?, side?, splitting?, in_class?};
 ghost use Rattle.tasks.specs.Tasks.{task_of};
 
 use crate::task::NormalTask;
@@ -34,53 +34,61 @@ impl<'a> Graph for Links<'a> {
     ghost arc = { λ g a b. link? (task_of g.task.now) g.position g.latch a b ≡ true };
 
     fn neighbours(&self, node: u8) -> LatchSet {
-        let onward = self.task.onward(self.position, self.latch, node);
-        onward.union(self.task.back(self.position, self.latch, node))
+        self.onward(node).union(self.back(node))
     }
 }
 
-impl NormalTask {
-    /// The latches that depend on `latch` at `position` alone: for that side, edges from `latch` to them are cut.
-    fn alone(&self, position: bool, latch: u8) -> LatchSet
-        ensures { (u : ℕ) → has result u ≡ (dependent? (task_of self.now) position latch u && not (dependent? (task_of self.now) (not position) latch u)) }
+impl Links<'_> {
+    /// The latches that depend on the latch at the position alone: for that side, edges from the latch to them are cut.
+    fn alone(&self) -> LatchSet
+        ensures { let t = task_of self.now.task.now in
+            (u : ℕ) → has result u ≡ (dependent? t self.now.position self.now.latch u && not (dependent? t (not self.now.position) self.now.latch u)) }
     {
-        let others = self.dependents(!position, latch);
-        self.dependents(position, latch).difference(others)
+        let others = self.task.dependents(!self.position, self.latch);
+        self.task
+            .dependents(self.position, self.latch)
+            .difference(others)
     }
 
     /// The latches that an edge that is not cut leads to from `node`.
-    fn onward(&self, position: bool, latch: u8, node: u8) -> LatchSet
-        ensures { (u : ℕ) → has result u ≡ (edge? (task_of self.now) node u && not (cut? (task_of self.now) position latch node u)) }
+    fn onward(&self, node: u8) -> LatchSet
+        ensures { let t = task_of self.now.task.now in
+            (u : ℕ) → has result u ≡ (edge? t node u && not (cut? t self.now.position self.now.latch node u)) }
     {
-        let all = self.successors(node);
-        if node == latch {
-            return all.difference(self.alone(position, latch));
+        let all = self.task.successors(node);
+        if node == self.latch {
+            return all.difference(self.alone());
         }
         all
     }
 
     /// The latches from which an edge that is not cut leads to `node`.
-    fn back(&self, position: bool, latch: u8, node: u8) -> LatchSet
-        ensures { (u : ℕ) → has result u ≡ (edge? (task_of self.now) u node && not (cut? (task_of self.now) position latch u node)) }
+    fn back(&self, node: u8) -> LatchSet
+        ensures { let t = task_of self.now.task.now in
+            (u : ℕ) → has result u ≡ (edge? t u node && not (cut? t self.now.position self.now.latch u node)) }
     {
-        let all = self.predecessors(node);
-        if self.alone(position, latch).contains(node) {
-            return all.without(latch);
+        let all = self.task.predecessors(node);
+        if self.alone().contains(node) {
+            return all.without(self.latch);
         }
         all
+    }
+}
+
+impl NormalTask {
+    /// Whether `latch` reaches itself along edges.
+    fn is_on_circle(&self, latch: u8) -> bool
+        ensures { result ≡ walk? (edge? (task_of self.now)) self.now.width latch latch }
+    {
+        let edges = Edges { task: self };
+        reached_from(&edges, latch).contains(latch)
     }
 
     /// Whether no latch reaches itself along edges.
     pub(crate) fn is_acyclic(&self) -> bool
         ensures { result ≡ acyclic? (task_of self.now) }
     {
-        let edges = Edges { task: self };
-        for latch in 0..self.width {
-            if reached_from(&edges, latch).contains(latch) {
-                return false;
-            }
-        }
-        true
+        (0..self.width).all(|latch| !self.is_on_circle(latch))
     }
 
     /// The side of `latch` at `position`: what links connect to the latches that depend on it there.
@@ -114,11 +122,6 @@ impl NormalTask {
     pub fn is_in_class(&self) -> bool
         ensures { result ≡ in_class? (task_of self.now) }
     {
-        for latch in 0..self.width {
-            if !self.is_of_a_kind(latch) {
-                return false;
-            }
-        }
-        self.is_acyclic()
+        (0..self.width).all(|latch| self.is_of_a_kind(latch)) && self.is_acyclic()
     }
 }

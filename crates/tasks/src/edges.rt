@@ -22,38 +22,32 @@ impl NormalTask {
     pub fn predecessors(&self, latch: u8) -> LatchSet
         ensures { (u : ℕ) → has result u ≡ edge? (task_of self.now) u latch }
     {
-        let mut found = LatchSet::EMPTY;
-        for m in self.moves[0..self.count as usize].iter() {
-            if m.latch == latch {
-                found = found.union(m.asks.named);
-            }
-        }
-        found.without(latch)
+        self.moves()
+            .iter()
+            .filter(|m| m.latch == latch)
+            .fold(LatchSet::EMPTY, |found, m| found.union(m.asks.named))
+            .without(latch)
     }
 
     /// The latches with an edge from `latch`: those with a move that asks something of it.
     pub(crate) fn successors(&self, latch: u8) -> LatchSet
         ensures { (v : ℕ) → has result v ≡ edge? (task_of self.now) latch v }
     {
-        let mut found = LatchSet::EMPTY;
-        for m in self.moves[0..self.count as usize].iter() {
-            if m.asks.named.contains(latch) {
-                found = found.with(m.latch);
-            }
-        }
-        found.without(latch)
+        self.moves()
+            .iter()
+            .filter(|m| m.asks.named.contains(latch))
+            .fold(LatchSet::EMPTY, |found, m| found.with(m.latch))
+            .without(latch)
     }
 
     /// The other latches with a move that has the condition that `latch` be at `position`.
     pub(crate) fn dependents(&self, position: bool, latch: u8) -> LatchSet
         ensures { (u : ℕ) → has result u ≡ dependent? (task_of self.now) position latch u }
     {
-        let mut found = LatchSet::EMPTY;
-        for m in self.moves[0..self.count as usize].iter() {
-            if is_asked(m.asks, position, latch) {
-                found = found.with(m.latch);
-            }
-        }
-        found.without(latch)
+        self.moves()
+            .iter()
+            .filter(|m| is_asked(m.asks, position, latch))
+            .fold(LatchSet::EMPTY, |found, m| found.with(m.latch))
+            .without(latch)
     }
 }

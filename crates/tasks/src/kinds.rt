@@ -11,20 +11,16 @@ use crate::edges::is_asked;
 use crate::task::{NormalMove, NormalTask};
 use book::PartialSetting;
 
-/// Whether two partial settings ask the same of every latch but one.
-fn is_same_but(latch: u8, p: PartialSetting, q: PartialSetting) -> bool
-    ensures { Decides result ((u : ℕ) → (u == latch || same_ask? (asks_of p u) (asks_of q u)) ≡ true) }
-{
-    p.named.without(latch) == q.named.without(latch)
-        && p.ones.without(latch) == q.ones.without(latch)
-}
-
-/// Whether `other` is the reverse of `m`, a move of `latch`, in every task with room for both.
-fn is_reverse(latch: u8, m: NormalMove, other: NormalMove) -> bool
-    ensures { (t : Task) → Below t.width m.asks.named → Below t.width other.asks.named
-        → result ≡ reverse? t latch (move_of m) (move_of other) }
-{
-    other.latch == latch && (other.to != m.to && is_same_but(latch, other.asks, m.asks))
+impl NormalMove {
+    /// Whether `other` is the reverse of this move, in every task with room for both.
+    fn is_reversed_by(&self, other: &NormalMove) -> bool
+        ensures { (t : Task) → Below t.width self.now.asks.named → Below t.width other.now.asks.named
+            → result ≡ reverse? t self.now.latch (move_of self.now) (move_of other.now) }
+    {
+        other.latch == self.latch
+            && other.to != self.to
+            && other.asks.without(self.latch) == self.asks.without(self.latch)
+    }
 }
 
 impl NormalTask {
@@ -32,12 +28,7 @@ impl NormalTask {
     fn is_thrown(&self, latch: u8, to: bool) -> bool
         ensures { result ≡ thrown? (task_of self.now) latch to }
     {
-        for m in self.moves[0..self.count as usize].iter() {
-            if m.latch == latch && m.to == to {
-                return true;
-            }
-        }
-        false
+        self.moves().iter().any(|m| m.latch == latch && m.to == to)
     }
 
     /// Whether `latch` is static: never thrown to 1, or wanted at 0 and never thrown to 0.
@@ -48,28 +39,20 @@ impl NormalTask {
             || is_asked(self.want, false, latch) && !self.is_thrown(latch, false)
     }
 
-    /// Whether some move is the reverse of `m`, a move of `latch`.
-    fn has_reverse(&self, latch: u8, m: NormalMove) -> bool
-        requires { Below self.now.width m.asks.named }
-        ensures { result ≡ some_of (reverse? (task_of self.now) latch (move_of m)) (moves_of self.now) }
+    /// Whether some move is the reverse of `m`.
+    fn has_reverse(&self, m: &NormalMove) -> bool
+        ensures { Below self.now.width m.now.asks.named
+            → result ≡ some_of (reverse? (task_of self.now) m.now.latch (move_of m.now)) (moves_of self.now) }
     {
-        for other in self.moves[0..self.count as usize].iter() {
-            if is_reverse(latch, m, *other) {
-                return true;
-            }
-        }
-        false
+        self.moves().iter().any(|other| m.is_reversed_by(other))
     }
 
     /// Whether `latch` is reversible: each move of it has a reverse.
     pub(crate) fn is_reversible(&self, latch: u8) -> bool
         ensures { result ≡ reversible? (task_of self.now) latch }
     {
-        for m in self.moves[0..self.count as usize].iter() {
-            if m.latch == latch && !self.has_reverse(latch, *m) {
-                return false;
-            }
-        }
-        true
+        self.moves()
+            .iter()
+            .all(|m| m.latch != latch || self.has_reverse(m))
     }
 }

@@ -1,9 +1,7 @@
 //! Bringing a book, a start and an errand to normal form.
-ghost use Rattle.std.specs.Prelude.{◌≡◌, ℕ, ◌<◌, ◌≤◌, true, false, ◌&&◌, [], map, length, take, MatchOption};
+ghost use Rattle.std.specs.Prelude.{◌≡◌, ℕ, ◌<◌, true, false, ◌&&◌, [], MatchOption};
 ghost use Rattle.words.specs.Sets.{most_latches, has, Below};
-ghost use Rattle.book.specs.Limits.{most_moves};
 ghost use Rattle.book.specs.Settings.{nothing_asked};
-ghost use Rattle.theory.specs.Tasks.{WellFormed};
 ghost use Rattle.rules.specs.Naming.{Names, errand_of};
 ghost use Rattle.rules.specs.NormalForm.{exchanged, exchanged_ask, normal_move as rule_in_normal_form, dropped?, task};
 ghost use Rattle.tasks.specs.Asks.{asks_of, rule_of, rules_of, setting_of};
@@ -33,12 +31,7 @@ fn asks_one(asked: PartialSetting, start: LatchSet, latch: u8) -> bool
 fn normal_asks(asked: PartialSetting, start: LatchSet) -> PartialSetting
     ensures { (u : ℕ) → asks_of result u ≡ exchanged_ask (asks_of asked u) (has start u) }
 {
-    let mut ones = LatchSet::EMPTY;
-    for latch in 0..MOST_LATCHES {
-        if asks_one(asked, start, latch) {
-            ones = ones.with(latch);
-        }
-    }
+    let ones = LatchSet::from_fn(MOST_LATCHES, |latch| asks_one(asked, start, latch));
     PartialSetting {
         named: asked.named,
         ones,
@@ -73,19 +66,6 @@ fn normal_move(number: u8, m: &Move, start: LatchSet) -> Option<NormalMove>
     })
 }
 
-/// The task of these moves and this want.
-fn bound(width: u8, count: u8, moves: [NormalMove; MOST_MOVES], want: PartialSetting) -> NormalTask
-    requires { (width ≤ most_latches) × ((count ≤ most_moves) × ((length moves ≡ most_moves) × (WellFormed (record { width = width; moves = map move_of (take count moves); want = asks_of want })))) }
-    ensures { task_of result ≡ record { width = width; moves = map move_of (take count moves); want = asks_of want } }
-{
-    NormalTask {
-        width,
-        count,
-        moves,
-        want,
-    }
-}
-
 /// The book, the start and what is wanted, in normal form.
 fn normal_task(book: &Book, start: LatchSet, want: PartialSetting) -> NormalTask
     requires { Below book.now.latches want.named }
@@ -99,21 +79,12 @@ fn normal_task(book: &Book, start: LatchSet, want: PartialSetting) -> NormalTask
             count += 1;
         }
     }
-    bound(book.latches, count, moves, normal_asks(want, start))
-}
-
-/// The positions wanted of the latches named, unless one is wanted at 1 that is not named.
-fn want_of(named: LatchSet, wanted: LatchSet) -> Option<PartialSetting>
-    ensures { MatchOption result (((j : ℕ) → has wanted j ≡ true → has named j ≡ true) → ⊥)
-        (λ p. (p.named ≡ named) × (p.ones ≡ wanted)) }
-{
-    if !wanted.difference(named).is_empty() {
-        return None;
+    NormalTask {
+        width: book.latches,
+        count,
+        moves,
+        want: normal_asks(want, start),
     }
-    Some(PartialSetting {
-        named,
-        ones: wanted,
-    })
 }
 
 impl NormalTask {
@@ -151,7 +122,7 @@ impl NormalTask {
         if !named.is_below(book.latches) {
             return None;
         }
-        let want = want_of(named, wanted)?;
+        let want = PartialSetting::new(named, wanted)?;
         Some(normal_task(book, start, want))
     }
 }

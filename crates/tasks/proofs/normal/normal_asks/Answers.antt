@@ -1,28 +1,23 @@
-use Rattle.std.proofs.Common.{◌+◌, sym, subst, arith}
+use Rattle.std.proofs.Common.{◌≡◌, ℕ, sym, ◌∙◌, inl, inr, arith, rules}
+use Rattle.std.proofs.lemmas.Bool.{cases_lt, and_left, false_from_ne_true}
+use Rattle.words.specs.Sets.{most_latches, has}
 use Rattle.words.proofs.Members.{below_all}
-use Rattle.tasks.proofs.NormalFormAsks.{normal_one, PassedUntil, none_passed, one_passed, none_more, ones_named, asks_normal}
+use Rattle.tasks.proofs.NormalFormAsks.{normal_one, ones_named, asks_normal}
 use Rattle.tasks.proofs.normal.normal_asks.Goals as goal
-use Rattle.tasks.proofs.normal.normal_asks.Goals.{then-asks_one, else-asks_one}
+use Rattle.tasks.proofs.normal.normal_asks.Goals.{After-from_fn-ones}
 
-pub loop-latch-init : goal.loop-latch-init
-loop-latch-init c = none_passed (normal_one c.args.asked c.args.start)
-
-pub loop-latch-preserved : goal.loop-latch-preserved
-loop-latch-preserved c =
-    let test = normal_one c.args.asked c.args.start in
-    let l = c.loop-latch in
-    elim c.if-asks_one.branch [
-      | then-asks_one w ↦
-          subst (PassedUntil (l.latch + 1) test) (sym w.ones-is)
-          (one_passed test l.latch l.ones w.with-ones.result c.loop-latch-test.true (sym w.if-asks_one.ensures) w.with-ones.ensures l.invariant)
-      | else-asks_one w ↦
-          subst (PassedUntil (l.latch + 1) test) (sym w.ones-is) (none_more test l.latch l.ones (sym w.if-asks_one.ensures) l.invariant)
+-- the latches at 1 in normal form are in the set, and no others
+one : (c : After-from_fn-ones) (u : ℕ) → has c.from_fn-ones.result u ≡ normal_one c.args.asked c.args.start u
+one c u =
+    elim (cases_lt u most_latches) [
+      | inl l ↦ let e = c.from_fn-ones.ensures.tested u l l in search rules
+      | inr g ↦
+          let unnamed = false_from_ne_true (has c.args.asked.named u) (λ h. omega (arith, below_all c.args.asked.named.word most_latches (omega arith) (omega arith) u h)) in
+          c.from_fn-ones.ensures.none u g ∙ sym (and_left (has c.args.asked.named u) _ unnamed)
     ]
 
 pub invariant_of-result : goal.invariant_of-result
-invariant_of-result c = record { within = ones_named c.args.asked c.args.start c.loop-latch.ones c.loop-latch.latch c.loop-latch.invariant }
+invariant_of-result c = record { within = ones_named c.args.asked c.args.start c.from_fn-ones.result (one (goal.at.invariant_of-result c).After-from_fn-ones) }
 
 pub returns : goal.returns
-returns c =
-    asks_normal c.args.asked c.args.start c.loop-latch.ones c.loop-latch.latch c.loop-latch-test.false
-    (below_all c.args.asked.named.word 32 (omega arith) (omega arith)) c.loop-latch.invariant
+returns c = asks_normal c.args.asked c.args.start c.from_fn-ones.result (one (goal.at.returns c).After-from_fn-ones)

@@ -1,5 +1,5 @@
-use Rattle.std.proofs.Common.{◌∙◌, arith}
-use Rattle.tasks.proofs.NormalFormTasks.{Brought, Read, book_read, read_latch, turn_dropped, turn_kept, all_brought, brought_task, brought_bound}
+use Rattle.std.proofs.Common.{◌≤◌, length, arith}
+use Rattle.tasks.proofs.NormalFormTasks.{Brought, Read, book_read, read_latch, turn_dropped, turn_kept, all_brought, brought_task, brought_well, place_own, place_within, place_asks_own, place_wanted}
 use Rattle.tasks.proofs.normal.normal_task.Goals as goal
 use Rattle.tasks.proofs.normal.normal_task.Goals.{After-m-item, After-normal_asks, in-Some, in_default}
 
@@ -29,13 +29,25 @@ all c =
     let l = c.loop-number in
     all_brought c.args.book.now c.args.start l.number l.count l.moves l.invariant c.loop-number-test.false l.auto.number-end
 
-pub bound-requires : goal.bound-requires
-bound-requires c =
-    brought_bound c.args.book.now c.args.start c.args.want c.normal_asks.result c.loop-number.count c.loop-number.moves
-    (all c) c.requires c.normal_asks.ensures
+pub invariant_of-result : goal.invariant_of-result
+invariant_of-result c =
+    let b = c.args.book.now in
+    let l = c.loop-number in
+    let brought = all (goal.at.invariant_of-result c).After-normal_asks in
+    let room : l.count ≤ length l.moves = omega (arith, brought.places, brought.fewer, b.room) in
+    let well = brought_well b c.args.start c.args.want c.normal_asks.result l.count l.moves brought c.requires c.normal_asks.ensures in
+    record {
+      narrow = b.few;
+      room = omega (arith, brought.fewer, b.room);
+      places = brought.places;
+      own = place_own b.latches l.count l.moves c.normal_asks.result room well;
+      within = place_within b.latches l.count l.moves c.normal_asks.result room well;
+      asks_own = λ k h. (place_asks_own b.latches l.count l.moves c.normal_asks.result room well k h).0;
+      opposite = λ k h. (place_asks_own b.latches l.count l.moves c.normal_asks.result room well k h).1;
+      wanted = place_wanted b.latches l.count l.moves c.normal_asks.result room well;
+    }
 
 pub returns : goal.returns
 returns c =
-    c.bound.ensures
-    ∙ brought_task c.args.book.now c.args.start c.args.want c.normal_asks.result c.loop-number.count c.loop-number.moves
+    brought_task c.args.book.now c.args.start c.args.want c.normal_asks.result c.loop-number.count c.loop-number.moves
     (all (goal.at.returns c).After-normal_asks) c.requires c.normal_asks.ensures

@@ -5,5 +5,5 @@ use Rattle.tasks.proofs.class.LinksGraph.neighbours.Goals as goal
 pub returns : goal.returns
 returns c =
     let g = c.args.self.now in
-    linked (task_of g.task.now) g.position g.latch c.args.node c.onward-onward.result c.back.result c.union.result
-    c.onward-onward.ensures c.back.ensures c.union.ensures
+    linked (task_of g.task.now) g.position g.latch c.args.node c.onward.result c.back.result c.union.result
+    c.onward.ensures c.back.ensures c.union.ensures
