@@ -16,4 +16,5 @@ pub mod Rests
 pub mod Seeking
 pub mod Serving
 pub mod SetRoutes
+pub mod Underway
 pub mod Unrolled

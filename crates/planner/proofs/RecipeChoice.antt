@@ -1,78 +1,121 @@
 -- The recipe of a latch is made by the first move that serves.
-use Rattle.std.proofs.Common.{◌≡◌, ℕ, zero, suc, ◌<◌, ◌≤◌, Bool, true, false, cond, List, [], ◌∷◌, map, length, take, filter, sym, refl, ap, ◌∙◌, subst, arith}
+use Rattle.std.proofs.Common.{◌≡◌, ℕ, zero, suc, ◌+◌, ◌<◌, ◌≤◌, Bool, true, false, cond, List, [], ◌∷◌, map, length, get_or, take, filter, sym, refl, ap, ◌∙◌, subst, inl, inr, arith}
 use mathlib.Core.Option.{none, some}
-use Rattle.std.proofs.lemmas.Bool.{or_parts}
+use Rattle.std.proofs.lemmas.List.{get_or-take, get_or_read, length-take}
 use Rattle.words.specs.declared.LatchSet.{LatchSet}
-use Rattle.theory.specs.Searches.{some_of}
+use Rattle.words.specs.Sets.{Below}
 use Rattle.theory.specs.Tasks.{Move}
 use Rattle.theory.specs.Recipes.{Table, opened, recipe_with, serves?, recipe_parts, chosen, recipe}
 use Rattle.theory.specs.Recipes.{Recipe as RecipeMeant}
+use Rattle.theory.proofs.Searches.{below_cases}
 use Rattle.tasks.specs.declared.task.NormalMove.{NormalMove}
 use Rattle.tasks.specs.declared.task.NormalTask.{NormalTask}
-use Rattle.tasks.specs.Places.{move_at}
-use Rattle.tasks.specs.Tasks.{move_of, moves_of, task_of}
+use Rattle.tasks.specs.Places.{no_move, move_at}
+use Rattle.tasks.specs.Tasks.{move_of, task_of}
 use Rattle.planner.specs.RecipesKept.{Helps, Made}
-use Rattle.tasks.proofs.Found.{Reads, Stops, some_to, place_before, place_read, place_end}
+
+-- the test of the move at a place
+abbrev pub test_at : (Move → Bool) → List NormalMove → ℕ → Bool
+test_at test ms k = test (move_of (move_at ms k))
 
 module _ (test : Move → Bool) (make : Move → RecipeMeant) where
   -- where no move passes none is taken
-  none_chosen : (ms : List Move) → some_of test ms ≡ false → chosen (map make (filter test ms)) ≡ none
+  none_chosen : (ms : List NormalMove) → ((k : ℕ) → k < length ms → test_at test ms k ≡ false) → chosen (map make (filter test (map move_of ms))) ≡ none
   unfolding chosen
   none_chosen [] h = refl
   none_chosen (m ∷ ms) h =
-      let p = or_parts (test m) (some_of test ms) h in
-      ap (λ (b : Bool). chosen (map make (cond b (m ∷ filter test ms) (filter test ms)))) p.0 ∙ none_chosen ms p.1
+      let rest = filter test (map move_of ms) in
+      ap (λ (b : Bool). chosen (map make (cond b (move_of m ∷ rest) rest))) (h 0 (omega arith)) ∙ none_chosen ms (λ k l. h (suc k) (omega arith))
 
   -- the first move that passes is taken
   first_chosen :
-      (ms : List NormalMove) (n i : ℕ) → i < n → i < length ms → some_to test ms i ≡ false → test (move_of (move_at ms i)) ≡ true →
-      chosen (map make (filter test (map move_of (take n ms)))) ≡ some (make (move_of (move_at ms i)))
+      (ms : List NormalMove) (i : ℕ) → i < length ms → ((k : ℕ) → k < i → test_at test ms k ≡ false) → test_at test ms i ≡ true →
+      chosen (map make (filter test (map move_of ms))) ≡ some (make (move_of (move_at ms i)))
   unfolding chosen
-  first_chosen [] n i l k h e = absurd (omega arith)
-  first_chosen (m ∷ ms) zero i l k h e = absurd (omega arith)
-  first_chosen (m ∷ ms) (suc n) zero l k h e =
-      let rest = filter test (map move_of (take n ms)) in
+  first_chosen [] i l h e = absurd (omega arith)
+  first_chosen (m ∷ ms) zero l h e =
+      let rest = filter test (map move_of ms) in
       ap (λ (b : Bool). chosen (map make (cond b (move_of m ∷ rest) rest))) e
-  first_chosen (m ∷ ms) (suc n) (suc i) l k h e =
-      let rest = filter test (map move_of (take n ms)) in
-      let p = or_parts (test (move_of m)) (some_to test ms i) h in
-      ap (λ (b : Bool). chosen (map make (cond b (move_of m ∷ rest) rest))) p.0 ∙ first_chosen ms n i (omega arith) (omega arith) p.1 e
+  first_chosen (m ∷ ms) (suc i) l h e =
+      let rest = filter test (map move_of ms) in
+      ap (λ (b : Bool). chosen (map make (cond b (move_of m ∷ rest) rest))) (h 0 (omega arith))
+      ∙ first_chosen ms i (omega arith) (λ k a. h (suc k) (omega arith)) e
 
-module _ (t : NormalTask) (kept : Table) (v : ℕ) (placed : List ℕ) (x : Bool) where
-  -- what a move makes
-  by : Move → RecipeMeant
-  by m = recipe_with kept (recipe_parts (task_of t) v m placed)
+module _ (t : NormalTask) where
+  all : List NormalMove
+  all = take t.count t.moves
 
-  -- no recipe is made where no move serves
-  pub none_made :
-      (i : ℕ) → Stops t.moves t.count i → some_to (serves? (task_of t) kept v x) t.moves i ≡ false → recipe (task_of t) kept placed v x ≡ none
-  unfolding by
-  none_made i stops h =
-      none_chosen (serves? (task_of t) kept v x) by (moves_of t)
-      (ap (some_to (serves? (task_of t) kept v x) t.moves) (sym (place_end t.moves t.count i stops)) ∙ h)
+  many_all : length all ≡ t.count
+  unfolding all
+  many_all = length-take t.count t.moves ∙ omega (arith, t.room, t.places)
 
-  -- the first move that serves makes the recipe
-  pub first_made :
-      (n i : ℕ) (m : NormalMove) (s : LatchSet) (many : ℕ) → Reads t.moves t.count i m →
-      some_to (serves? (task_of t) kept v x) t.moves i ≡ false → serves? (task_of t) kept v x (move_of m) ≡ true →
-      Helps (task_of t) v (move_of m) s → many ≡ length (opened kept (recipe_parts (task_of t) v (move_of m) placed)) → many ≤ n →
-      Made t kept v placed x n (record { place = i; helpers = s; length = many })
-  unfolding by
-  first_made n i m s many read none_before serves helps counts short = record {
-    is =
-        first_chosen (serves? (task_of t) kept v x) by t.moves t.count i inside.0 inside.1 none_before
-        (subst (λ (k : NormalMove). serves? (task_of t) kept v x (move_of k) ≡ true) here serves);
-    stands = record {
-      within = inside.0;
-      helps = subst (λ (k : NormalMove). Helps (task_of t) v (move_of k) s) here helps;
-      parts = refl;
-      counted = subst (λ (k : NormalMove). many ≡ length (opened kept (recipe_parts (task_of t) v (move_of k) placed))) here counts;
-    };
-    short = short;
-  }
-    where
-      inside : (i < t.count) × (i < length t.moves)
-      inside = place_before t.moves t.count i read.0
+  at_all : (k : ℕ) → k < t.count → move_at all k ≡ move_at t.moves k
+  unfolding all
+  at_all k l = get_or-take t.count t.moves k no_move l
 
-      here : m ≡ move_at t.moves i
-      here = place_read t.moves t.count i m read
+  -- the move that a loop over the moves of the task reads
+  pub move_read :
+      (ms : List NormalMove) (i : ℕ) (m : NormalMove) → ms ≡ take t.count t.moves → i < length ms → m ≡ get_or ms i m →
+      (i < t.count) × (m ≡ move_at t.moves i)
+  unfolding all
+  move_read ms i m e l r =
+      let below : i < t.count = omega (arith, many_all, ap (λ (ks : List NormalMove). length ks) e) in (
+        below,
+        get_or_read ms i m l r no_move ∙ ap (λ (ks : List NormalMove). move_at ks i) e ∙ at_all i below,
+      )
+
+  -- there are as many of them as the task has
+  pub moves_many : (ms : List NormalMove) → ms ≡ take t.count t.moves → length ms ≡ t.count
+  unfolding all
+  moves_many ms e = ap (λ (ks : List NormalMove). length ks) e ∙ many_all
+
+  -- it asks latches of the task alone
+  pub read_within : (i : ℕ) (m : NormalMove) → (i < t.count) × (m ≡ move_at t.moves i) → Below t.width m.asks.named
+  read_within i m r = subst (λ (k : NormalMove). Below t.width k.asks.named) (sym r.1) (t.within i r.0)
+
+  module _ (kept : Table) (v : ℕ) (x : Bool) where
+    -- no move before place i serves
+    abbrev pub NoneServes : ℕ → Type 0
+    NoneServes i = (k : ℕ) → k < i → test_at (serves? (task_of t) kept v x) t.moves k ≡ false
+
+    -- one more does not
+    pub none_more : (i : ℕ) → NoneServes i → test_at (serves? (task_of t) kept v x) t.moves i ≡ false → NoneServes (i + 1)
+    none_more i h e k l =
+        elim (below_cases k i (omega arith)) [
+          | inl a ↦ h k a
+          | inr s ↦ ap (test_at (serves? (task_of t) kept v x) t.moves) s ∙ e
+        ]
+
+    -- what a move makes
+    by : List ℕ → Move → RecipeMeant
+    by placed m = recipe_with kept (recipe_parts (task_of t) v m placed)
+
+    -- no recipe is made where no move serves
+    pub none_made : (placed : List ℕ) → NoneServes t.count → recipe (task_of t) kept placed v x ≡ none
+    unfolding by all
+    none_made placed h =
+        none_chosen (serves? (task_of t) kept v x) (by placed) all
+        (λ k l. let b : k < t.count = omega (arith, many_all) in ap (λ (m : NormalMove). serves? (task_of t) kept v x (move_of m)) (at_all k b) ∙ h k b)
+
+    -- the first move that serves makes the recipe
+    pub first_made :
+        (placed : List ℕ) (n i : ℕ) (s : LatchSet) (many : ℕ) → i < t.count → NoneServes i → test_at (serves? (task_of t) kept v x) t.moves i ≡ true →
+        Helps (task_of t) v (move_of (move_at t.moves i)) s →
+        many ≡ length (opened kept (recipe_parts (task_of t) v (move_of (move_at t.moves i)) placed)) → many ≤ n →
+        Made t kept v placed x n (record { place = i; helpers = s; length = many })
+    unfolding by all
+    first_made placed n i s many l h e helps counts short =
+        let serving = serves? (task_of t) kept v x in record {
+          is =
+              first_chosen serving (by placed) all i (omega (arith, many_all))
+              (λ k a. let b : k < t.count = omega arith in ap (λ (m : NormalMove). serving (move_of m)) (at_all k b) ∙ h k a)
+              (ap (λ (m : NormalMove). serving (move_of m)) (at_all i l) ∙ e)
+              ∙ ap (λ (m : NormalMove). some (by placed (move_of m))) (at_all i l);
+          stands = record {
+            within = l;
+            helps = helps;
+            parts = refl;
+            counted = counts;
+          };
+          short = short;
+        }

@@ -5,7 +5,7 @@
 --   kept_place? t order x i        the latch at place i has a kept recipe to x
 --   move_by t order table x i      the move of the recipe to x of the latch at place i
 --   Orders t order                 the latches stand in the order of the task
---   Members t table                the sets have the latches whose recipes are kept
+--   Members t table                the recipes that are kept are those of the task
 --   Counts t table                 each recipe has the length of the one kept
 --   Within t order table           a kept recipe's move is one of the task
 --   Helpers x t order table        the helpers of a kept recipe to x are those of its move
@@ -23,7 +23,7 @@ use Rattle.tasks.specs.Tasks.{move_of, task_of}
 use Rattle.planner.specs.declared.order.list.Order.{Order}
 use Rattle.planner.specs.declared.recipes.table.RecipeTable.{RecipeTable}
 use Rattle.planner.specs.Orders.{order_of}
-use Rattle.planner.specs.RecipesKept.{before, kept_to, recipe_at}
+use Rattle.planner.specs.RecipesKept.{before, kept_in?, recipe_at}
 
 -- the numbers of moves
 abbrev pub numbers : List Move → List ℕ
@@ -51,7 +51,7 @@ Orders t order = order_of order ≡ order_meant (task_of t)
 
 -- the latches with kept recipes
 abbrev pub Members : NormalTask → RecipeTable → Type 0
-Members t table = (x : Bool) (u : ℕ) → has (kept_to x table) u ≡ kept? x (kept_table (task_of t) u)
+Members t table = (x : Bool) (u : ℕ) → kept_in? x table u ≡ kept? x (kept_table (task_of t) u)
 
 -- the lengths of recipes, 0 where none is kept
 abbrev pub Counts : NormalTask → RecipeTable → Type 0

@@ -2,7 +2,7 @@
 mod place;
 
 ghost use Rattle.std.specs.Prelude.{◌≡◌, ◌<◌, ◌≤◌, length, slice_index};
-ghost use Rattle.planner.specs.RecipesKept.{recipe_at};
+ghost use Rattle.planner.specs.RecipesKept.{kept_at, recipe_in};
 ghost use Rattle.planner.specs.Made.{latch_at, recipe_numbers};
 ghost use Rattle.planner.specs.Lookup.{nth, in_turn, Sought};
 
@@ -24,17 +24,20 @@ impl Order {
 }
 
 impl Recipes {
-    /// The recipe to `to` of the latch at `place`.
-    pub(crate) fn recipe(&self, place: u8, to: bool) -> Recipe
+    /// The recipe to `to` of the latch at `place`, if it is kept.
+    fn recipe(&self, place: u8, to: bool) -> Option<Recipe>
         requires { place < self.now.order.count }
-        ensures { result ≡ recipe_at to self.now.table (latch_at self.now.order place) }
+        ensures { result ≡ recipe_in to (kept_at self.now.table (latch_at self.now.order place)) }
     {
-        let latch = self.order.latches[place as usize];
-        if to {
-            self.table.up[latch as usize]
-        } else {
-            self.table.down[latch as usize]
-        }
+        self.table.recipe(self.order.latches[place as usize], to)
+    }
+
+    /// How many moves the recipe to `to` of the latch at `place` comes to, 0 if it is not kept.
+    pub(crate) fn length_at(&self, place: u8, to: bool) -> u64
+        requires { place < self.now.order.count }
+        ensures { result ≡ length (recipe_numbers self.now.task to (latch_at self.now.order place)) }
+    {
+        self.table.length(self.order.latches[place as usize], to)
     }
 
     /// Seeks place `k` in the recipes to `to` of the helpers among the first `placed` latches. If it is behind them all, the answer is the
@@ -47,7 +50,7 @@ impl Recipes {
         for turn in 0..placed {
             let place = self.order.place_at(placed, to, turn);
             if helpers.contains(self.order.latches[place as usize]) {
-                let length = self.recipe(place, to).length;
+                let length = self.length_at(place, to);
                 if rest < length {
                     return Ok(Inside { place, rest });
                 }
@@ -63,7 +66,7 @@ impl Recipes {
         requires { (place < self.now.order.count) × (k < length (recipe_numbers self.now.task to (latch_at self.now.order place))) }
         ensures { result ≡ nth (recipe_numbers self.now.task to (latch_at self.now.order place)) k }
     {
-        let recipe = self.recipe(place, to);
+        let recipe = self.recipe(place, to)?;
         let rest = match self.seek(recipe.helpers, place, true, k) {
             Ok(part) => return self.move_at(part.place, true, part.rest),
             Err(rest) => rest,

@@ -62,7 +62,7 @@ impl Entries {
         }
         let zero = both(others, recipes.task.side(false, latch));
         let one = both(others, recipes.task.side(true, latch));
-        let kept = recipes.table.ones.contains(latch);
+        let kept = recipes.table.recipe(latch, true).is_some();
         self.extend(recipes, from + 1, others.difference(zero).difference(one));
         self.extend(recipes, from + 1, zero);
         self.push_if(kept, from, true);
@@ -99,7 +99,7 @@ impl Recipes {
     {
         let mut length: u64 = 0;
         for entry in entries.list[0..entries.count as usize].iter() {
-            length += self.recipe(entry.place, entry.to).length;
+            length += self.length_at(entry.place, entry.to);
         }
         length
     }
@@ -140,7 +140,7 @@ impl Route {
     {
         let mut rest = k;
         for entry in self.entries.list[0..self.entries.count as usize].iter() {
-            let length = self.recipes.recipe(entry.place, entry.to).length;
+            let length = self.recipes.length_at(entry.place, entry.to);
             if rest < length {
                 return self.recipes.move_at(entry.place, entry.to, rest);
             }

@@ -103,7 +103,7 @@ module _
       (YieldsList-from_slice (take t.count t.moves) all) (λ x q k. calls x true q k) (λ x q k. (calls x false q k).1))
 
 -- one more element at the end
-pub some_of_push : {A : Type 0} (test : A → Bool) (xs : List A) (x : A) → some_of test (xs ++ (x ∷ [])) ≡ (some_of test xs || test x)
+some_of_push : {A : Type 0} (test : A → Bool) (xs : List A) (x : A) → some_of test (xs ++ (x ∷ [])) ≡ (some_of test xs || test x)
 some_of_push test [] x = grind arith
 some_of_push test (y ∷ xs) x = let e = some_of_push test xs x in grind arith
 

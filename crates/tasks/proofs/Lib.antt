@@ -2,7 +2,6 @@ pub mod Bridge
 pub mod Chains
 pub mod Circles
 pub mod ClassFormed
-pub mod Found
 pub mod KindsAlike
 pub mod NormalFormAsks
 pub mod NormalFormMoves

@@ -1,12 +1,15 @@
 //! The causal graph of a task: which latches a latch is asked of, and which latches depend on it.
-ghost use Rattle.std.specs.Prelude.{◌≡◌, ℕ};
+ghost use Rattle.std.specs.Prelude.{◌≡◌, ℕ, Bool, not, ◌&&◌, ◌==◌};
+ghost use Rattle.std.specs.Fn.{FnReturnsAt};
 ghost use Rattle.words.specs.Sets.{has};
 ghost use Rattle.theory.specs.Class.{edge?, dependent?};
-ghost use Rattle.theory.specs.Tasks.{asks?};
+ghost use Rattle.theory.specs.Searches.{some_of};
+ghost use Rattle.theory.specs.Tasks.{Move, asks?};
 ghost use Rattle.tasks.specs.Asks.{asks_of};
-ghost use Rattle.tasks.specs.Tasks.{task_of};
+ghost use Rattle.tasks.specs.declared.task.NormalMove.{NormalMove};
+ghost use Rattle.tasks.specs.Tasks.{move_of, moves_of, task_of};
 
-use crate::task::NormalTask;
+use crate::task::{NormalMove, NormalTask};
 use book::PartialSetting;
 use words::LatchSet;
 
@@ -29,25 +32,30 @@ impl NormalTask {
             .without(latch)
     }
 
+    /// The latches but `latch` with a move that passes.
+    fn thrown_where<F: Fn(&NormalMove) -> bool>(&self, latch: u8, passes: F) -> LatchSet
+        requires { F.IsAlwaysCallable passes }
+        ensures { (test : Move → Bool) → ((m : NormalMove) (b : Bool) → FnReturnsAt F.Fn passes m b → b ≡ test (move_of m))
+            → (u : ℕ) → has result u ≡ (not (u == latch) && some_of (λ m. (m.latch == u) && test m) (moves_of self.now)) }
+    {
+        self.moves()
+            .iter()
+            .filter(|m| passes(m))
+            .fold(LatchSet::EMPTY, |found, m| found.with(m.latch))
+            .without(latch)
+    }
+
     /// The latches with an edge from `latch`: those with a move that asks something of it.
     pub(crate) fn successors(&self, latch: u8) -> LatchSet
         ensures { (v : ℕ) → has result v ≡ edge? (task_of self.now) latch v }
     {
-        self.moves()
-            .iter()
-            .filter(|m| m.asks.named.contains(latch))
-            .fold(LatchSet::EMPTY, |found, m| found.with(m.latch))
-            .without(latch)
+        self.thrown_where(latch, |m| m.asks.named.contains(latch))
     }
 
     /// The other latches with a move that has the condition that `latch` be at `position`.
     pub(crate) fn dependents(&self, position: bool, latch: u8) -> LatchSet
         ensures { (u : ℕ) → has result u ≡ dependent? (task_of self.now) position latch u }
     {
-        self.moves()
-            .iter()
-            .filter(|m| is_asked(m.asks, position, latch))
-            .fold(LatchSet::EMPTY, |found, m| found.with(m.latch))
-            .without(latch)
+        self.thrown_where(latch, |m| is_asked(m.asks, position, latch))
     }
 }

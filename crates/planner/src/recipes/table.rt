@@ -4,16 +4,18 @@ ghost use Rattle.words.specs.Sets.{most_latches};
 
 use crate::recipes::recipe::Recipe;
 use book::MOST_LATCHES;
-use words::LatchSet;
 
-/// The latches whose recipes to 1 and to 0 are kept, and the recipe of each latch to 1, `up`, and to 0, `down`. One that is not kept has no
-/// moves.
+/// The recipes of a latch that are kept: neither, the one to 1, or the one to 1 and the one to 0.
+#[derive(Clone, Copy)]
+pub(crate) enum Kept {
+    Neither,
+    One(Recipe),
+    Both(Recipe, Recipe),
+}
+
+/// What is kept of each latch.
 #[derive(Clone, Copy)]
 pub(crate) struct RecipeTable {
-    pub(crate) ones: LatchSet,
-    pub(crate) zeros: LatchSet,
-    pub(crate) up: [Recipe; MOST_LATCHES],
-    pub(crate) down: [Recipe; MOST_LATCHES],
-    ghost ups: { length up ≡ most_latches },
-    ghost downs: { length down ≡ most_latches },
+    pub(crate) kept: [Kept; MOST_LATCHES],
+    ghost places: { length kept ≡ most_latches },
 }

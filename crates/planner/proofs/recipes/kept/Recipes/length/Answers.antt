@@ -1,10 +1,10 @@
 use Rattle.std.proofs.Common.{◌+◌, refl, arith}
 use Rattle.planner.specs.Listed.{entry_numbers}
-use Rattle.planner.proofs.Listing.{read_before, more_moves, fewer_moves, read_entry, entries_room, entry_counted, entry_placed}
+use Rattle.planner.proofs.Listing.{read_before, more_moves, fewer_moves, read_entry, entries_room, entry_placed}
 use Rattle.planner.proofs.recipes.kept.Recipes.length.Goals as goal
 
-pub recipe-length-requires : goal.recipe-length-requires
-recipe-length-requires c = entry_placed c.args.entries.now c.args.self.now.order.count c.loop-entry.entry-index c.requires.0 c.loop-entry-test.true
+pub length_at-length-requires : goal.length_at-length-requires
+length_at-length-requires c = entry_placed c.args.entries.now c.args.self.now.order.count c.loop-entry.entry-index c.requires.0 c.loop-entry-test.true
 
 pub overflow_add-length : goal.overflow_add-length
 overflow_add-length c =
@@ -17,7 +17,7 @@ overflow_add-length c =
       arith,
       c.requires.1,
       c.loop-entry.invariant,
-      entry_counted s e c.recipe-length.result c.recipe-length.ensures,
+      c.length_at-length.ensures,
       more_moves es.list es.count (entries_room es) (entry_numbers s) i e (c.loop-entry-test.true, refl),
       fewer_moves es.list es.count (entries_room es) (entry_numbers s) (i + 1) (omega arith),
     )
@@ -31,6 +31,6 @@ loop-entry-preserved c =
     omega (
       arith,
       c.loop-entry.invariant,
-      entry_counted s e c.recipe-length.result c.recipe-length.ensures,
+      c.length_at-length.ensures,
       more_moves es.list es.count (entries_room es) (entry_numbers s) i e (c.loop-entry-test.true, refl),
     )

@@ -1,6 +1,5 @@
 use Rattle.std.proofs.Common.{◌≡◌, ℕ, ◌<◌, true, false, length, get_or, sym, ap, ◌∙◌, subst, arith}
 use Rattle.words.specs.Sets.{has}
-use Rattle.planner.specs.declared.recipes.recipe.Recipe.{Recipe}
 use Rattle.planner.specs.Lookup.{nth, in_turn}
 use Rattle.planner.specs.Made.{recipe_numbers, latch_at}
 use Rattle.planner.proofs.Seeking.{turns, turn_over, turn_inside, turn_behind, turns_over}
@@ -15,8 +14,7 @@ returns-then-rest-length c =
     let vs = in_turn s.order x c.args.placed in
     let u = latch_at s.order c.place_at-place.result in
     let same : u ≡ get_or vs k 0 = c.place_at-place.ensures.latch in
-    let count : c.recipe-length.result.length ≡ length (recipe_numbers s.task x u) = ap (λ (r : Recipe). r.length) c.recipe-length.ensures ∙ s.counts x u in
-    let inside : c.loop-turn.rest < length (recipe_numbers s.task x u) = omega (arith, c.if-rest-length.true) in
+    let inside : c.loop-turn.rest < length (recipe_numbers s.task x u) = omega (arith, c.if-rest-length.true, c.length_at-length.ensures) in
     let below : k < length vs = omega (arith, turns s.order c.args.placed c.requires x, c.loop-turn-test.true) in
     record {
       before = c.place_at-place.ensures.before;
@@ -39,14 +37,11 @@ loop-turn-preserved c =
     let same : u ≡ get_or vs k 0 = c.place_at-place.ensures.latch in
     let below : k < length vs = omega (arith, turns s.order c.args.placed c.requires x, c.loop-turn-test.true) in
     elim c.if-contains.branch [
-      | then-contains+else-rest-length w ↦
-          let count : w.recipe-length.result.length ≡ length (recipe_numbers s.task x u) =
-          ap (λ (r : Recipe). r.length) w.recipe-length.ensures ∙ s.counts x u in
-          λ ys.
+      | then-contains+else-rest-length w ↦ λ ys.
           c.loop-turn.invariant ys
-          ∙ turn_behind s.task x c.args.helpers vs k below ys c.loop-turn.rest w.recipe-length.result.length c.if-contains.rest
+          ∙ turn_behind s.task x c.args.helpers vs k below ys c.loop-turn.rest w.length_at-length.result c.if-contains.rest
           (subst (λ (v : ℕ). has c.args.helpers v ≡ true) same (sym w.if-contains.ensures))
-          (subst (λ (v : ℕ). w.recipe-length.result.length ≡ length (recipe_numbers s.task x v)) same count) w.if-rest-length.false w.rest-is
+          (subst (λ (v : ℕ). w.length_at-length.result ≡ length (recipe_numbers s.task x v)) same w.length_at-length.ensures) w.if-rest-length.false w.rest-is
       | else-contains w ↦ λ ys.
           c.loop-turn.invariant ys
           ∙ turn_over s.task x c.args.helpers vs k below ys c.loop-turn.rest

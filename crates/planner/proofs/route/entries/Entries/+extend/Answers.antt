@@ -1,4 +1,4 @@
-use Rattle.std.proofs.Common.{◌≡◌, ℕ, ◌+◌, ◌<◌, ◌≤◌, Bool, true, false, not, ◌&&◌, sym, ap, ◌∙◌, arith}
+use Rattle.std.proofs.Common.{◌≡◌, ℕ, ◌+◌, ◌<◌, ◌≤◌, Bool, true, false, not, ◌&&◌, is_some, sym, ap, ◌∙◌, arith}
 use Rattle.words.specs.declared.LatchSet.{LatchSet}
 use Rattle.words.specs.Sets.{has}
 use Rattle.theory.specs.Tasks.{asks?}
@@ -8,6 +8,7 @@ use Rattle.tasks.specs.Tasks.{task_of}
 use Rattle.planner.specs.declared.recipes.kept.Recipes.{Recipes}
 use Rattle.planner.specs.Laid.{rest, size}
 use Rattle.planner.specs.Made.{latch_at}
+use Rattle.planner.specs.RecipesKept.{kept_in?}
 use Rattle.planner.proofs.Extending.{extends_empty, extends_end, extends_out, extends_plain, extends_split, size_next, size_others, size_sides}
 use Rattle.planner.proofs.Rests.{latch_within}
 use Rattle.planner.proofs.route.entries.Entries.+extend.Goals as goal
@@ -124,7 +125,8 @@ returns t c =
     let l = c.if-from-recipes.false in
     let v = latch_at s.order c.args.from in
     let others = c.without-others.result in
-    let back : c.if-kept.push_if ≡ (c.contains-kept.result && asks? false (asks_of s.task.want v)) =
+    let kept : c.is_some-kept.result ≡ kept_in? true s.table v = c.is_some-kept.ensures ∙ ap is_some c.recipe.ensures in
+    let back : c.if-kept.push_if ≡ (c.is_some-kept.result && asks? false (asks_of s.task.want v)) =
     elim c.if-kept.branch [
       | then-kept w ↦ w.push_if-is ∙ w.is_asked-then-kept.ensures ∙ ap (λ (b : Bool). b && asks? false (asks_of s.task.want v)) (sym w.if-kept.true)
       | else-kept w ↦ w.push_if-is ∙ w.if-kept.false ∙ ap (λ (b : Bool). b && asks? false (asks_of s.task.want v)) (sym w.if-kept.false)
@@ -134,5 +136,5 @@ returns t c =
     (on s false v others c.side.result c.both-zero.result c.both-zero.ensures c.side.ensures)
     (on s true v others c.side-2.result c.both-one.result c.both-one.ensures c.side-2.ensures)
     (off others c.both-zero.result c.both-one.result c.difference.result c.difference-2.result c.difference.ensures c.difference-2.ensures)
-    c.args.self.now _ _ _ _ _ _ _ (c.contains-kept.ensures ∙ s.members true v) back c.extend-2.ensures c.extend-3.ensures c.push_if-2.ensures
+    c.args.self.now _ _ _ _ _ _ _ (kept ∙ s.members true v) back c.extend-2.ensures c.extend-3.ensures c.push_if-2.ensures
     c.extend-4.ensures c.push_if-3.ensures

@@ -1,11 +1,11 @@
 use Rattle.std.proofs.Common.{ℕ, List, sym, refl, ap, ◌∙◌, arith}
 use Rattle.planner.specs.Listed.{entry_numbers}
 use Rattle.planner.specs.Lookup.{nth}
-use Rattle.planner.proofs.Listing.{stops, left_inside, left_behind, left_none, read_entry, entries_room, entry_counted, entry_placed}
+use Rattle.planner.proofs.Listing.{stops, left_inside, left_behind, left_none, read_entry, entries_room, entry_placed}
 use Rattle.planner.proofs.route.table.Route.at.Goals as goal
 
-pub recipe-length-requires : goal.recipe-length-requires
-recipe-length-requires c =
+pub length_at-length-requires : goal.length_at-length-requires
+length_at-length-requires c =
     entry_placed c.args.self.now.entries c.args.self.now.recipes.order.count c.loop-entry.entry-index c.args.self.now.placed c.loop-entry-test.true
 
 pub loop-entry-init : goal.loop-entry-init
@@ -16,7 +16,7 @@ move_at-requires c =
     let r = c.args.self.now in
     let i = c.loop-entry.entry-index in (
       entry_placed r.entries r.recipes.order.count i r.placed c.loop-entry-test.true,
-      omega (arith, c.if-rest-length.true, entry_counted r.recipes (read_entry r.entries i) c.recipe-length.result c.recipe-length.ensures),
+      omega (arith, c.if-rest-length.true, c.length_at-length.ensures),
     )
 
 pub returns-then-rest-length : goal.returns-then-rest-length
@@ -27,7 +27,7 @@ returns-then-rest-length c =
     let e = read_entry es i in
     c.move_at.ensures
     ∙ sym (left_inside es.list es.count (entries_room es) (entry_numbers r.recipes) i e (c.loop-entry-test.true, refl) c.loop-entry.rest
-    (omega (arith, c.if-rest-length.true, entry_counted r.recipes e c.recipe-length.result c.recipe-length.ensures)))
+    (omega (arith, c.if-rest-length.true, c.length_at-length.ensures)))
     ∙ sym c.loop-entry.invariant
 
 pub loop-entry-preserved : goal.loop-entry-preserved
@@ -38,7 +38,7 @@ loop-entry-preserved c =
     let e = read_entry es i in
     c.loop-entry.invariant
     ∙ left_behind es.list es.count (entries_room es) (entry_numbers r.recipes) i e (c.loop-entry-test.true, refl) c.loop-entry.rest
-    c.recipe-length.result.length _ (entry_counted r.recipes e c.recipe-length.result c.recipe-length.ensures) c.if-rest-length.false refl
+    c.length_at-length.result _ c.length_at-length.ensures c.if-rest-length.false refl
 
 pub returns : goal.returns
 returns c =

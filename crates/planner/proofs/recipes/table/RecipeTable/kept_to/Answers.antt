@@ -1,0 +1,17 @@
+use Rattle.std.proofs.Common.{rules, is_some, sym, ap, ◌∙◌, inl, inr, arith}
+use Rattle.std.proofs.lemmas.Bool.{cases_lt}
+use Rattle.std.proofs.lemmas.List.{get_or_past}
+use Rattle.planner.specs.declared.recipes.table.Kept.{Kept as KeptRecipes}
+use Rattle.planner.specs.declared.recipes.table.Kept.TheVariants.{Neither}
+use Rattle.planner.specs.RecipesKept.{recipe_in}
+use Rattle.planner.proofs.recipes.table.RecipeTable.kept_to.Goals as goal
+
+pub returns : goal.returns
+returns c u =
+    let table = c.args.self.now in
+    elim (cases_lt u 32) [
+      | inl l ↦ let h = c.from_fn.ensures.tested u l l in search rules
+      | inr g ↦
+          c.from_fn.ensures.none u g
+          ∙ sym (ap (λ (k : KeptRecipes). is_some (recipe_in c.args.to k)) (get_or_past table.kept u Neither (omega (arith, table.places))))
+    ]

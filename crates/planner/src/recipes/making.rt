@@ -1,0 +1,112 @@
+//! Recipes under way: they are made latch by latch, along the order.
+ghost use Rattle.std.specs.Prelude.{◌≡◌, ℕ, ◌+◌, ◌^◌, ◌<◌, ◌≤◌, length as length_of};
+ghost use Rattle.theory.specs.Recipes.{recipe_parts, opened};
+ghost use Rattle.theory.specs.Tasks.{Move};
+ghost use Rattle.tasks.specs.Tasks.{task_of};
+ghost use Rattle.planner.specs.Made.{Orders};
+ghost use Rattle.planner.specs.RecipesKept.{Splits, Helps, Chosen, Tabled, before, kept_behind};
+
+use crate::order::Order;
+use crate::recipes::recipe::Recipe;
+use crate::recipes::table::{Kept, RecipeTable};
+use crate::recipes::{helpers, serves};
+use book::MOST_LATCHES;
+use tasks::{NormalTask, is_asked};
+use words::LatchSet;
+
+/// Recipes under way: what is kept of the first `placed` latches of the order.
+#[derive(Clone, Copy)]
+pub(crate) struct Making<'a> {
+    pub(crate) task: &'a NormalTask,
+    pub(crate) order: &'a Order,
+    pub(crate) splitting: LatchSet,
+    pub(crate) placed: u8,
+    pub(crate) table: RecipeTable,
+    ghost orders: { Orders task.now order.now },
+    ghost splits: { Splits (task_of task.now) splitting },
+    ghost room: { placed ≤ order.now.count },
+    ghost tabled: { ∥ Tabled task.now order.now.latches placed (kept_behind task.now order.now placed) table ∥₁ },
+}
+
+impl<'a> Making<'a> {
+    /// No latch is placed yet.
+    pub(crate) fn new(task: &'a NormalTask, order: &'a Order) -> Making<'a>
+        requires { Orders task.now order.now }
+        ensures task { result.task.now ≡ task.now }
+        ensures order { result.order.now ≡ order.now }
+    {
+        let splitting = LatchSet::from_fn(task.width, |latch| task.is_splitting(latch));
+        Making {
+            task,
+            order,
+            splitting,
+            placed: 0,
+            table: RecipeTable {
+                kept: [Kept::Neither; MOST_LATCHES],
+            },
+        }
+    }
+
+    /// How many moves a recipe with these helpers comes to, behind the latches placed.
+    fn length(&self, helpers: LatchSet) -> u64
+        ensures short { result ≤ 3 ^ self.now.placed }
+        ensures counted { (v : ℕ) (m : Move) → Helps (task_of self.now.task.now) v m helpers
+            → result ≡ length_of (opened (kept_behind self.now.task.now self.now.order.now self.now.placed)
+            (recipe_parts (task_of self.now.task.now) v m (before self.now.order.now.latches self.now.placed))) }
+    {
+        let mut length: u64 = 1;
+        for latch in self.order.latches[..self.placed as usize].iter() {
+            if helpers.contains(*latch) {
+                length += self.table.length(*latch, true) + self.table.length(*latch, false);
+            }
+        }
+        length
+    }
+
+    /// The recipe of `latch` to `to` by the first move that serves, behind the latches placed.
+    fn recipe(&self, latch: u8, to: bool) -> Option<Recipe>
+        ensures { Chosen self.now.task.now (kept_behind self.now.task.now self.now.order.now self.now.placed) latch
+            (before self.now.order.now.latches self.now.placed) to (3 ^ self.now.placed) result }
+    {
+        let ones = self.table.kept_to(true);
+        for (place, m) in self.task.moves().iter().enumerate() {
+            if serves(ones, latch, to, *m) {
+                let helpers = helpers(self.splitting, latch, *m);
+                let length = self.length(helpers);
+                return Some(Recipe {
+                    place: place as u8,
+                    helpers,
+                    length,
+                });
+            }
+        }
+        None
+    }
+
+    /// Places the next latch of the order.
+    fn place(&mut self)
+        requires { self.old.placed < self.old.order.now.count }
+        ensures placed { self.new.placed ≡ self.old.placed + 1 }
+        ensures task { self.new.task.now ≡ self.old.task.now }
+        ensures order { self.new.order.now ≡ self.old.order.now }
+    {
+        let latch = self.order.latches[self.placed as usize];
+        let one = self.recipe(latch, true);
+        let zero = self.recipe(latch, false);
+        let mut table = self.table;
+        table.kept[latch as usize] = Kept::of(one, zero, is_asked(self.task.want, false, latch));
+        self.table = table;
+        self.placed += 1;
+    }
+
+    /// Places all latches of the order.
+    pub(crate) fn place_all(&mut self)
+        ensures placed { self.new.placed ≡ self.old.order.now.count }
+        ensures task { self.new.task.now ≡ self.old.task.now }
+        ensures order { self.new.order.now ≡ self.old.order.now }
+    {
+        while self.placed < self.order.count {
+            self.place();
+        }
+    }
+}
