@@ -39,9 +39,10 @@ rules_count b = length-map (take b.count b.moves) rule_of ∙ length-take-le b.c
 -- the move of a number of the book
 pub rule_there : (b : Book) (k : ℕ) → k < b.count → get_elem? (rules_of b).moves k ≡ some (rule_of (move_at b.moves k))
 rule_there b k l =
+    let kept = take b.count b.moves in
+    let long : length kept ≡ b.count = length-take-le b.count b.moves (omega (arith, b.room, b.move_places)) in
     element_there (rules_of b).moves k (rule_of no_move) (omega (arith, rules_count b))
-    ∙ ap some (get_or-map rule_of (take b.count b.moves) k no_move (rule_of no_move) (omega (arith, length-take-le b.count b.moves (omega (arith, b.room, b.move_places))))
-    ∙ ap rule_of (get_or-take b.count b.moves k no_move l))
+    ∙ ap some (get_or-map rule_of kept k no_move (rule_of no_move) (omega arith) ∙ ap rule_of (get_or-take b.count b.moves k no_move l))
 
 -- a route that leads somewhere has moves of the book alone
 pub route_own : (b : Book) (s : Setting) (named wanted : LatchSet) (p : Route) → LeadsThere (rules_of b) s named wanted p →
