@@ -21,7 +21,7 @@ use Rattle.tasks.specs.declared.task.NormalTask.{NormalTask}
 use Rattle.tasks.specs.Places.{move_at}
 use Rattle.tasks.specs.Tasks.{move_of, task_of}
 use Rattle.planner.specs.declared.order.list.Order.{Order}
-use Rattle.planner.specs.declared.recipes.table.RecipeTable.{RecipeTable}
+use Rattle.planner.specs.declared.recipes.recipe_table.RecipeTable.{RecipeTable}
 use Rattle.planner.specs.Orders.{order_of}
 use Rattle.planner.specs.RecipesKept.{before, kept_in?, recipe_at}
 

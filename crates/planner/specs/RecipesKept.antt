@@ -30,9 +30,9 @@ use Rattle.theory.specs.Recipes.{Kept, Table, kept?, recipe_to, moves_to, helper
 use Rattle.theory.specs.Recipes.{Recipe as RecipeMeant}
 use Rattle.planner.specs.declared.order.list.Order.{Order}
 use Rattle.planner.specs.declared.recipes.recipe.Recipe.{Recipe}
-use Rattle.planner.specs.declared.recipes.table.Kept.{Kept as KeptRecipes}
-use Rattle.planner.specs.declared.recipes.table.Kept.TheVariants.{Neither, One, Both}
-use Rattle.planner.specs.declared.recipes.table.RecipeTable.{RecipeTable}
+use Rattle.planner.specs.declared.recipes.recipe_table.Kept.{Kept as KeptRecipes}
+use Rattle.planner.specs.declared.recipes.recipe_table.Kept.TheVariants.{Neither, One, Both}
+use Rattle.planner.specs.declared.recipes.recipe_table.RecipeTable.{RecipeTable}
 use Rattle.tasks.specs.declared.task.NormalTask.{NormalTask}
 use Rattle.tasks.specs.Places.{move_at}
 use Rattle.tasks.specs.Tasks.{move_of, task_of}
