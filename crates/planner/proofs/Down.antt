@@ -5,6 +5,7 @@ use Rattle.words.specs.Sets.{has}
 use Rattle.theory.specs.Recipes.{kept?, helper?}
 use Rattle.theory.specs.Route.{kept_table}
 use Rattle.theory.proofs.Opening.{no_recipe}
+use Rattle.table.specs.Items.{items}
 use Rattle.tasks.specs.declared.task.NormalTask.{NormalTask}
 use Rattle.tasks.specs.Places.{move_at}
 use Rattle.tasks.specs.Tasks.{task_of}
@@ -37,12 +38,12 @@ module _ (s : Recipes) (i : ℕ) (l : i < s.order.count) where
   pub unrolled : (x : Bool) → kept_place? s.task s.order x i ≡ true →
       recipe_numbers s.task x (latch_at s.order i)
       ≡ helped s.task true (recipe_at x s.table (latch_at s.order i)).helpers (in_turn s.order true i)
-      ++ ((move_at s.task.moves (recipe_at x s.table (latch_at s.order i)).place).number
+      ++ ((move_at (items s.task.moves) (recipe_at x s.table (latch_at s.order i)).place).number
       ∷ helped s.task false (recipe_at x s.table (latch_at s.order i)).helpers (in_turn s.order false i))
   unrolled x h =
       let helpers = (recipe_at x s.table (latch_at s.order i)).helpers in
       opens_to x i (l, h)
       ∙ parts_numbers s.task (latch_at s.order i) (move_by s.task s.order s.table x i) helpers (helpers_of x h) (before s.order.latches i)
       ∙ ap (λ (vs : List ℕ). helped s.task true helpers (in_turn s.order true i)
-      ++ ((move_at s.task.moves (recipe_at x s.table (latch_at s.order i)).place).number ∷ helped s.task false helpers vs))
+      ++ ((move_at (items s.task.moves) (recipe_at x s.table (latch_at s.order i)).place).number ∷ helped s.task false helpers vs))
       (in_order s.order i (omega arith))

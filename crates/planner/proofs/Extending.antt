@@ -12,13 +12,13 @@ use Rattle.theory.proofs.Sides.{sides_apart}
 use Rattle.tasks.specs.Asks.{asks_of}
 use Rattle.tasks.specs.Tasks.{task_of}
 use Rattle.planner.specs.declared.recipes.kept.Recipes.{Recipes}
-use Rattle.planner.specs.declared.route.entries.Entries.{Entries}
+use Rattle.planner.specs.declared.route.entry.Entry.{Entry}
 use Rattle.planner.specs.Laid.{parts_of, rest, size, Puts, Extends}
 use Rattle.planner.specs.Made.{latch_at}
 use Rattle.planner.proofs.Rests.{rest_next, rest_end, rest_fresh, rest_within, size_alike, size_parts}
 use Rattle.planner.proofs.SetRoutes.{set_route_out, set_route_plain, set_route_split, set_route_none}
 
-module _ (s : Recipes) (set : LatchSet) (i : ℕ) (es : Entries) where
+module _ (s : Recipes) (set : LatchSet) (i : ℕ) (es : List Entry) where
   -- no latch is left
   nothing : ((u : ℕ) → In (rest s.order i) u → has set u ≡ false) → Extends s set i es es
   nothing none = record {
@@ -58,7 +58,7 @@ module _ (s : Recipes) (set : LatchSet) (i : ℕ) (l : i < s.order.count) where
   size_next = ap (size (has set)) next
 
   -- v is not in the set
-  pub extends_out : (es after : Entries) → has set v ≡ false → Extends s set (i + 1) es after → Extends s set i es after
+  pub extends_out : (es after : List Entry) → has set v ≡ false → Extends s set (i + 1) es after → Extends s set i es after
   extends_out es after h e = record {
     room = omega (arith, e.room, size_next, ap {B = ℕ} (λ (b : Bool). cond b 1 0) h);
     placed = e.placed;
@@ -87,7 +87,7 @@ module _ (s : Recipes) (set : LatchSet) (i : ℕ) (l : i < s.order.count) where
 
     -- v is not splitting
     pub extends_plain :
-        (es one after : Entries) (b : Bool) → splitting? (task_of s.task) v ≡ false → b ≡ asks? true (asks_of s.task.want v) →
+        (es one after : List Entry) (b : Bool) → splitting? (task_of s.task) v ≡ false → b ≡ asks? true (asks_of s.task.want v) →
         Extends s others (i + 1) es one → Puts b i true one after → Extends s set i es after
     extends_plain es one after b sp asked e p = record {
       room = omega (arith, e.room, p.room, size_others);
@@ -139,7 +139,7 @@ module _ (s : Recipes) (set : LatchSet) (i : ℕ) (l : i < s.order.count) where
               rw (aside u, zeros u, ones u) (counted (has others u) (side? (task_of s.task) false v u) (side? (task_of s.task) true v u) h)
 
       pub extends_split :
-          (es e1 e2 e3 e4 after : Entries) (k b : Bool) → k ≡ kept? true (kept_table (task_of s.task) v) →
+          (es e1 e2 e3 e4 after : List Entry) (k b : Bool) → k ≡ kept? true (kept_table (task_of s.task) v) →
           b ≡ (k && asks? false (asks_of s.task.want v)) →
           Extends s neither (i + 1) es e1 → Extends s zero (i + 1) e1 e2 → Puts k i true e2 e3 → Extends s one (i + 1) e3 e4 → Puts b i false e4 after →
           Extends s set i es after

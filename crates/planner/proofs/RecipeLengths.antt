@@ -7,7 +7,7 @@ use Rattle.theory.specs.Tasks.{Move, Task}
 use Rattle.theory.specs.Recipes.{Table, moves_to, recipe_parts, opened}
 use Rattle.theory.proofs.Lengths.{three_pow_le}
 use Rattle.theory.proofs.Opening.{opened_alone, opened_unhelped, opened_helped}
-use Rattle.planner.specs.declared.recipes.table.RecipeTable.{RecipeTable}
+use Rattle.planner.specs.declared.recipes.recipe_table.RecipeTable.{RecipeTable}
 use Rattle.planner.specs.RecipesKept.{Helps, Lengths, Short, recipe_at, before}
 
 -- one more latch is placed behind the others

@@ -8,9 +8,9 @@ use Rattle.theory.specs.Recipes.{Kept, kept?, recipe_to, moves_to, Table, table_
 use Rattle.theory.specs.Route.{kept_table}
 use Rattle.theory.proofs.Searches.{below_cases}
 use Rattle.theory.proofs.Tables.{table_head, table_tail}
-use Rattle.planner.specs.declared.recipes.table.Kept.{Kept as KeptRecipes}
-use Rattle.planner.specs.declared.recipes.table.Kept.TheVariants.{Neither}
-use Rattle.planner.specs.declared.recipes.table.RecipeTable.{RecipeTable}
+use Rattle.planner.specs.declared.recipes.recipe_table.Kept.{Kept as KeptRecipes}
+use Rattle.planner.specs.declared.recipes.recipe_table.Kept.TheVariants.{Neither}
+use Rattle.planner.specs.declared.recipes.recipe_table.RecipeTable.{RecipeTable}
 use Rattle.tasks.specs.declared.task.NormalTask.{NormalTask}
 use Rattle.tasks.specs.Tasks.{task_of}
 use Rattle.planner.specs.RecipesKept.{before, recipe_in, recipe_or, kept_at, kept_in?, recipe_at, StandsFor, Held, Tabled, kept_last}

@@ -5,7 +5,7 @@ use Rattle.std.proofs.Props.{props}
 use Rattle.theory.specs.Recipes.{kept?}
 use Rattle.theory.specs.Route.{kept_table}
 use Rattle.planner.specs.declared.order.list.Order.{Order}
-use Rattle.planner.specs.declared.recipes.table.RecipeTable.{RecipeTable}
+use Rattle.planner.specs.declared.recipes.recipe_table.RecipeTable.{RecipeTable}
 use Rattle.tasks.specs.declared.task.NormalTask.{NormalTask}
 use Rattle.tasks.specs.Tasks.{task_of}
 use Rattle.planner.specs.Made.{Orders}

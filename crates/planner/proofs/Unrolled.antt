@@ -13,7 +13,7 @@ use Rattle.rules.specs.NormalForm.{number_of}
 use Rattle.tasks.specs.declared.task.NormalTask.{NormalTask}
 use Rattle.tasks.specs.Tasks.{task_of}
 use Rattle.planner.specs.declared.order.list.Order.{Order}
-use Rattle.planner.specs.declared.recipes.table.RecipeTable.{RecipeTable}
+use Rattle.planner.specs.declared.recipes.recipe_table.RecipeTable.{RecipeTable}
 use Rattle.planner.specs.Made.{numbers, latch_at, move_by, Orders, Counts, Within, Helpers, Opens}
 use Rattle.planner.specs.RecipesKept.{before, Tabled}
 use Rattle.planner.proofs.OrderFresh.{before_next, fresh_at, in_before, order_before}

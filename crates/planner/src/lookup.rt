@@ -72,7 +72,7 @@ impl Recipes {
             Err(rest) => rest,
         };
         if rest == 0 {
-            return Some(self.task.moves[recipe.place as usize].number);
+            return Some(self.task.moves()[recipe.place as usize].number);
         }
         match self.seek(recipe.helpers, place, false, rest - 1) {
             Ok(part) => self.move_at(part.place, false, part.rest),

@@ -8,7 +8,7 @@ ghost use Rattle.planner.specs.RecipesKept.{Splits, Helps, Chosen, Tabled, befor
 
 use crate::order::Order;
 use crate::recipes::recipe::Recipe;
-use crate::recipes::table::{Kept, RecipeTable};
+use crate::recipes::recipe_table::{Kept, RecipeTable};
 use crate::recipes::{helpers, serves};
 use book::MOST_LATCHES;
 use tasks::{NormalTask, is_asked};
