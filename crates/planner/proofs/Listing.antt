@@ -1,7 +1,7 @@
 -- The entries of a route, and its moves entry by entry.
-use Rattle.std.proofs.Common.{◌≡◌, ℕ, ◌+◌, ◌-◌, ◌*◌, ◌^◌, ◌<◌, ◌≤◌, Bool, true, List, [], ◌∷◌, ◌++◌, map, length, get_or, take, drop, None, sym, refl, ap, ◌∙◌, arith, length-append}
+use Rattle.std.proofs.Common.{◌≡◌, ℕ, ◌+◌, ◌-◌, ◌*◌, ◌^◌, ◌<◌, ◌≤◌, Bool, true, List, [], ◌∷◌, ◌++◌, map, length, get_or, take, drop, None, sym, refl, ap, ◌∙◌, arith, length-append, length-drop}
 use lib.ListN.{length-map}
-use Rattle.std.proofs.lemmas.List.{map-append, drop_more, drop_all, take_more, flat_map_more, length-take-le}
+use Rattle.std.proofs.lemmas.List.{map-append, drop_more, drop_all, take_more, flat_map_more}
 use Rattle.std.proofs.lemmas.List.Folds.{length-flat_map-take}
 use Rattle.std.proofs.lemmas.Bool.{eq-eqb}
 use Rattle.std.specs.List.{flat_map}
@@ -27,6 +27,7 @@ use Rattle.planner.specs.Lookup.{nth}
 use Rattle.planner.specs.Made.{numbers, latch_at}
 use Rattle.planner.specs.Orders.{order_of}
 use Rattle.planner.proofs.Nth.{nth_left, nth_behind}
+use Rattle.planner.proofs.OrderFresh.{few}
 use Rattle.planner.proofs.Rests.{rest_within, size_most}
 
 -- every latch that there can be is in the set of all
@@ -39,9 +40,9 @@ module _ (s : Recipes) where
   -- no more latches than there are entries for
   pub all_fit : (W : ℕ → Bool) → 2 * size W (rest s.order 0) ≤ most_entries
   all_fit W =
-      let few = size_most W (rest s.order 0) in
-      let short = length-take-le s.order.count s.order.latches (omega (arith, s.order.room, s.order.places)) in
-      omega (arith, s.order.room)
+      let most = size_most W (rest s.order 0) in
+      let shorter : length (rest s.order 0) ≤ length (order_of s.order) = omega (arith, length-drop 0 (order_of s.order)) in
+      omega (arith, few s.order)
 
   -- the route of all latches, behind no entry
   pub all_laid : (set : LatchSet) (es after : List Entry) → set.word ≡ 4294967295 → es ≡ [] → Extends s set 0 es after →

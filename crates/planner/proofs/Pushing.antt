@@ -9,6 +9,7 @@ use Rattle.planner.specs.declared.order.list.Order.{Order}
 use Rattle.planner.specs.declared.route.entry.Entry.{Entry}
 use Rattle.planner.specs.Made.{latch_at}
 use Rattle.planner.specs.Laid.{no_entry, entry_part, parts_of, Placed, Puts}
+use Rattle.planner.specs.Orders.{order_of}
 
 module _ (es after : List Entry) (place : ℕ) (to : Bool) (pushed : after ≡ es ++ record { place = place; to = to } ∷ []) where
   abbrev new : Entry
@@ -17,12 +18,12 @@ module _ (es after : List Entry) (place : ℕ) (to : Bool) (pushed : after ≡ e
   count : length after ≡ length es + 1
   count = ap (λ (xs : List Entry). length xs) pushed ∙ length-append es (new ∷ [])
 
-  placed : (order : Order) → place < order.count → Placed order es → Placed order after
+  placed : (order : Order) → place < length (order_of order) → Placed order es → Placed order after
   placed order l p k h =
       let at : get_or after k no_entry ≡ get_or (es ++ new ∷ []) k no_entry = ap (λ (xs : List Entry). get_or xs k no_entry) pushed in
       elim (below_cases k (length es) (omega (arith, count))) [
-        | inl a ↦ subst (λ (e : Entry). e.place < order.count) (sym (at ∙ get_or_append_left es (new ∷ []) no_entry k a)) (p k a)
-        | inr e ↦ subst (λ (x : Entry). x.place < order.count) (sym (at ∙ ap (λ (j : ℕ). get_or (es ++ new ∷ []) j no_entry) e ∙ get_or-append_seam es new [] no_entry)) l
+        | inl a ↦ subst (λ (e : Entry). e.place < length (order_of order)) (sym (at ∙ get_or_append_left es (new ∷ []) no_entry k a)) (p k a)
+        | inr e ↦ subst (λ (x : Entry). x.place < length (order_of order)) (sym (at ∙ ap (λ (j : ℕ). get_or (es ++ new ∷ []) j no_entry) e ∙ get_or-append_seam es new [] no_entry)) l
       ]
 
   pub put : (b : Bool) → b ≡ true → Puts b place to es after

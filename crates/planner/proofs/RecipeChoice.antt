@@ -1,7 +1,7 @@
 -- The recipe of a latch is made by the first move that serves.
-use Rattle.std.proofs.Common.{◌≡◌, ℕ, zero, suc, ◌+◌, ◌<◌, ◌≤◌, Bool, true, false, cond, List, [], ◌∷◌, map, length, get_or, take, filter, sym, refl, ap, ◌∙◌, subst, inl, inr, arith}
+use Rattle.std.proofs.Common.{◌≡◌, ℕ, zero, suc, ◌+◌, ◌<◌, ◌≤◌, Bool, true, false, cond, List, [], ◌∷◌, map, length, get_or, filter, sym, refl, ap, ◌∙◌, subst, inl, inr, arith}
 use mathlib.Core.Option.{none, some}
-use Rattle.std.proofs.lemmas.List.{get_or-take, get_or_read, length-take}
+use Rattle.std.proofs.lemmas.List.{get_or_read}
 use Rattle.words.specs.declared.LatchSet.{LatchSet}
 use Rattle.words.specs.Sets.{Below}
 use Rattle.theory.specs.Tasks.{Move}

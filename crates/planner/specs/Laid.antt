@@ -39,7 +39,7 @@ parts_of order es = map (entry_part order) es
 
 -- each entry has a place of the order
 abbrev pub Placed : Order → List Entry → Type 0
-Placed order es = (k : ℕ) → k < length es → (entry_at es k).place < order.count
+Placed order es = (k : ℕ) → k < length es → (entry_at es k).place < length (order_of order)
 
 -- the latches from a place on
 abbrev pub rest : Order → ℕ → List ℕ
@@ -53,7 +53,7 @@ size W (v ∷ vs) = cond (W v) 1 0 + size W vs
 -- one entry more, if the test passes
 pub record Puts (b : Bool) (place : ℕ) (to : Bool) (es after : List Entry) : Type 0 where
   pub room : length after ≤ length es + 1
-  pub placed : (order : Order) → place < order.count → Placed order es → Placed order after
+  pub placed : (order : Order) → place < length (order_of order) → Placed order es → Placed order after
   pub parts : (order : Order) → parts_of order after ≡ parts_of order es ++ when b (recipe_of (latch_at order place) to)
 
 -- the route of a set behind the entries

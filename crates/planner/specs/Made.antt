@@ -36,7 +36,7 @@ recipe_numbers t x u = numbers (moves_to x (kept_table (task_of t) u))
 
 -- the latch at a place
 abbrev pub latch_at : Order → ℕ → ℕ
-latch_at order i = slice_index order.latches i
+latch_at order i = slice_index (order_of order) i
 
 -- the recipe to x is kept
 abbrev pub kept_place? : NormalTask → Order → Bool → ℕ → Bool
@@ -61,17 +61,17 @@ Counts t table = (x : Bool) (u : ℕ) → (recipe_at x table u).length ≡ lengt
 -- the moves of recipes stand in the task
 abbrev pub Within : NormalTask → Order → RecipeTable → Type 0
 Within t order table =
-    (x : Bool) (i : ℕ) → (i < order.count) × (kept_place? t order x i ≡ true) → (recipe_at x table (latch_at order i)).place < length (items t.moves)
+    (x : Bool) (i : ℕ) → (i < length (order_of order)) × (kept_place? t order x i ≡ true) → (recipe_at x table (latch_at order i)).place < length (items t.moves)
 
 -- the helpers of recipes
 abbrev pub Helpers : Bool → NormalTask → Order → RecipeTable → Type 0
 Helpers x t order table =
-    (i : ℕ) → (i < order.count) × (kept_place? t order x i ≡ true) → (u : ℕ) →
+    (i : ℕ) → (i < length (order_of order)) × (kept_place? t order x i ≡ true) → (u : ℕ) →
     has (recipe_at x table (latch_at order i)).helpers u ≡ helper? (task_of t) (latch_at order i) (move_by t order table x i) u
 
 -- what recipes open to
 abbrev pub Opens : Bool → NormalTask → Order → RecipeTable → Type 0
 Opens x t order table =
-    (i : ℕ) → (i < order.count) × (kept_place? t order x i ≡ true) →
+    (i : ℕ) → (i < length (order_of order)) × (kept_place? t order x i ≡ true) →
     recipe_numbers t x (latch_at order i)
-    ≡ numbers (opened (kept_table (task_of t)) (recipe_parts (task_of t) (latch_at order i) (move_by t order table x i) (before order.latches i)))
+    ≡ numbers (opened (kept_table (task_of t)) (recipe_parts (task_of t) (latch_at order i) (move_by t order table x i) (before (order_of order) i)))

@@ -35,6 +35,7 @@ use Rattle.planner.specs.declared.recipes.recipe_table.Kept.TheVariants.{Neither
 use Rattle.planner.specs.declared.recipes.recipe_table.RecipeTable.{RecipeTable}
 use Rattle.table.specs.Items.{items}
 use Rattle.tasks.specs.declared.task.NormalTask.{NormalTask}
+use Rattle.planner.specs.Orders.{order_of}
 use Rattle.tasks.specs.Places.{move_at}
 use Rattle.tasks.specs.Tasks.{move_of, task_of}
 
@@ -124,7 +125,7 @@ kept_last t kept placed v = keep (t.want v) (recipe t kept placed v true) (recip
 
 -- what is kept of the first latches of the order
 abbrev pub kept_behind : NormalTask → Order → ℕ → Table
-kept_behind t order k = table_of (task_of t) (before order.latches k)
+kept_behind t order k = table_of (task_of t) (before (order_of order) k)
 
 -- what the recipes of one latch stand for
 pub record Held (t : NormalTask) (v : ℕ) (placed : List ℕ) (n : ℕ) (k : Kept) (c : KeptRecipes) : Type 0 where

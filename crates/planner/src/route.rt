@@ -14,6 +14,7 @@ ghost use Rattle.tasks.specs.Tasks.{task_of};
 ghost use Rattle.planner.specs.Laid.{parts_of, Placed, rest, size, Puts, Extends};
 ghost use Rattle.planner.specs.Listed.{entry_numbers, route_numbers};
 ghost use Rattle.planner.specs.Lookup.{nth};
+ghost use Rattle.planner.specs.Orders.{order_of};
 ghost use Rattle.planner.specs.Routes.{moves_of};
 
 use crate::recipes::Recipes;
@@ -44,13 +45,13 @@ fn push_if(entries: &mut Entries, put: bool, entry: Entry)
 impl Recipes {
     /// Puts the route of the latches of `set` behind the entries, by their first latch from place `from` of the order on.
     fn extend(&self, entries: &mut Entries, from: u8, set: LatchSet)
-        requires { (from ≤ self.now.order.count) × (length_of (items entries.old) + 2 * size (has set) (rest self.now.order from) ≤ most_entries) }
+        requires { (from ≤ length_of (order_of self.now.order)) × (length_of (items entries.old) + 2 * size (has set) (rest self.now.order from) ≤ most_entries) }
         ensures { Extends self.now set from (items entries.old) (items entries.new) }
     {
-        if set.is_empty() || from >= self.order.count {
+        if set.is_empty() || from >= self.order.len() {
             return;
         }
-        let latch = self.order.latches[from as usize];
+        let latch = self.order.latch(from);
         if !set.contains(latch) {
             self.extend(entries, from + 1, set);
             return;

@@ -10,6 +10,7 @@ use Rattle.planner.specs.Made.{recipe_numbers, latch_at}
 use Rattle.planner.specs.RecipesKept.{no_recipe, kept_at, recipe_at, recipe_in}
 use Rattle.planner.proofs.Down.{kept_if_long, unrolled}
 use Rattle.planner.proofs.Nth.{nth_next}
+use Rattle.planner.specs.Orders.{order_of}
 use Rattle.planner.proofs.recipes.kept.Recipes.+move_at.Goals as goal
 
 -- the moves of the recipe r of the latch at place i
@@ -18,7 +19,7 @@ parts s i r =
     helped s.task true r.helpers (in_turn s.order true i)
     ++ ((move_at (items s.task.moves) r.place).number ∷ helped s.task false r.helpers (in_turn s.order false i))
 
-module _ (s : Recipes) (i : ℕ) (l : i < s.order.count) (x : Bool) (k : ℕ) (long : k < length (recipe_numbers s.task x (latch_at s.order i))) (r : Recipe)
+module _ (s : Recipes) (i : ℕ) (l : i < length (order_of s.order)) (x : Bool) (k : ℕ) (long : k < length (recipe_numbers s.task x (latch_at s.order i))) (r : Recipe)
     (e : Some r ≡ recipe_in x (kept_at s.table (latch_at s.order i))) where
   same : r ≡ recipe_at x s.table (latch_at s.order i)
   same = ap (λ (o : Option Recipe). unwrap_or o no_recipe) e
