@@ -1,5 +1,5 @@
 -- Laying the route of a set behind other entries, by the first latch of the order.
-use Rattle.std.proofs.Common.{◌≡◌, ℕ, ◌+◌, ◌<◌, ◌≤◌, Bool, true, false, cond, not, ◌&&◌, List, ◌∷◌, ◌++◌, sym, refl, ap, ◌∙◌, subst, ap₂, inl, inr, append_assoc, append-nil, arith}
+use Rattle.std.proofs.Common.{◌≡◌, ℕ, ◌+◌, ◌<◌, ◌≤◌, Bool, true, false, cond, not, ◌&&◌, List, ◌∷◌, ◌++◌, sym, refl, ap, ◌∙◌, subst, ap₂, inl, inr, append_assoc, append-nil, arith, length}
 use Rattle.std.proofs.lemmas.Bool.{both_ways, ne_eqb, not_from_false}
 use Rattle.words.specs.declared.LatchSet.{LatchSet}
 use Rattle.words.specs.Sets.{has, has_without, Empty}
@@ -12,13 +12,14 @@ use Rattle.theory.proofs.Sides.{sides_apart}
 use Rattle.tasks.specs.Asks.{asks_of}
 use Rattle.tasks.specs.Tasks.{task_of}
 use Rattle.planner.specs.declared.recipes.kept.Recipes.{Recipes}
-use Rattle.planner.specs.declared.route.entries.Entries.{Entries}
+use Rattle.planner.specs.declared.route.entry.Entry.{Entry}
 use Rattle.planner.specs.Laid.{parts_of, rest, size, Puts, Extends}
 use Rattle.planner.specs.Made.{latch_at}
 use Rattle.planner.proofs.Rests.{rest_next, rest_end, rest_fresh, rest_within, size_alike, size_parts}
 use Rattle.planner.proofs.SetRoutes.{set_route_out, set_route_plain, set_route_split, set_route_none}
+use Rattle.planner.specs.Orders.{order_of}
 
-module _ (s : Recipes) (set : LatchSet) (i : ℕ) (es : Entries) where
+module _ (s : Recipes) (set : LatchSet) (i : ℕ) (es : List Entry) where
   -- no latch is left
   nothing : ((u : ℕ) → In (rest s.order i) u → has set u ≡ false) → Extends s set i es es
   nothing none = record {
@@ -33,19 +34,16 @@ module _ (s : Recipes) (set : LatchSet) (i : ℕ) (es : Entries) where
   pub extends_empty : Empty set → Extends s set i es es
   extends_empty e = nothing (λ u h. e u)
 
-  pub extends_end : s.order.count ≤ i → Extends s set i es es
+  pub extends_end : length (order_of s.order) ≤ i → Extends s set i es es
   extends_end l = nothing (λ u h. absurd (subst (λ (vs : List ℕ). In vs u) (rest_end s.order i l) h))
 
 -- with the latch v at place i
-module _ (s : Recipes) (set : LatchSet) (i : ℕ) (l : i < s.order.count) where
-  abbrev v : ℕ
-  v = latch_at s.order i
-
+module _ (s : Recipes) (set : LatchSet) (i : ℕ) (l : i < length (order_of s.order)) (v : ℕ) (at : v ≡ latch_at s.order i) where
   abbrev later : List ℕ
   later = rest s.order (i + 1)
 
   next : rest s.order i ≡ v ∷ later
-  next = rest_next s.order i l
+  next = rest_next s.order i l ∙ ap (λ (w : ℕ). w ∷ later) (sym at)
 
   -- what is known of all latches from v on is known of v and of those behind it
   here : (W : ℕ → Bool) → ((u : ℕ) → In (rest s.order i) u → has set u ≡ W u) → has set v ≡ W v
@@ -58,7 +56,7 @@ module _ (s : Recipes) (set : LatchSet) (i : ℕ) (l : i < s.order.count) where
   size_next = ap (size (has set)) next
 
   -- v is not in the set
-  pub extends_out : (es after : Entries) → has set v ≡ false → Extends s set (i + 1) es after → Extends s set i es after
+  pub extends_out : (es after : List Entry) → has set v ≡ false → Extends s set (i + 1) es after → Extends s set i es after
   extends_out es after h e = record {
     room = omega (arith, e.room, size_next, ap {B = ℕ} (λ (b : Bool). cond b 1 0) h);
     placed = e.placed;
@@ -74,7 +72,7 @@ module _ (s : Recipes) (set : LatchSet) (i : ℕ) (l : i < s.order.count) where
     pub others_later : (u : ℕ) → In later u → has others u ≡ has set u
     others_later u h =
         without u
-        ∙ ap (λ (b : Bool). has set u && b) (not_from_false _ (ne_eqb u v (λ e. rest_fresh s.order s.task s.orders i l (subst (In later) e h))))
+        ∙ ap (λ (b : Bool). has set u && b) (not_from_false _ (ne_eqb u v (λ e. rest_fresh s.order s.task s.orders i l (subst (In later) (e ∙ at) h))))
         ∙ kept_as (has set u)
       where
         kept_as : (b : Bool) → (b && true) ≡ b
@@ -87,7 +85,7 @@ module _ (s : Recipes) (set : LatchSet) (i : ℕ) (l : i < s.order.count) where
 
     -- v is not splitting
     pub extends_plain :
-        (es one after : Entries) (b : Bool) → splitting? (task_of s.task) v ≡ false → b ≡ asks? true (asks_of s.task.want v) →
+        (es one after : List Entry) (b : Bool) → splitting? (task_of s.task) v ≡ false → b ≡ asks? true (asks_of s.task.want v) →
         Extends s others (i + 1) es one → Puts b i true one after → Extends s set i es after
     extends_plain es one after b sp asked e p = record {
       room = omega (arith, e.room, p.room, size_others);
@@ -96,6 +94,7 @@ module _ (s : Recipes) (set : LatchSet) (i : ℕ) (l : i < s.order.count) where
           let t = task_of s.task in
           let table = kept_table (task_of s.task) in
           p.parts s.order
+          ∙ ap (λ (w : ℕ). parts_of s.order one ++ when b (recipe_of w true)) (sym at)
           ∙ ap₂ {A = List Part} {B = Bool} (λ ps c. ps ++ when c (recipe_of v true)) (e.parts W (λ u h. others_later u h ∙ behind W same u h)) asked
           ∙ append_assoc (parts_of s.order es) (set_route t table later W) (when (asks? true (t.want v)) (recipe_of v true))
           ∙ ap (λ (ps : List Part). parts_of s.order es ++ ps)
@@ -139,7 +138,7 @@ module _ (s : Recipes) (set : LatchSet) (i : ℕ) (l : i < s.order.count) where
               rw (aside u, zeros u, ones u) (counted (has others u) (side? (task_of s.task) false v u) (side? (task_of s.task) true v u) h)
 
       pub extends_split :
-          (es e1 e2 e3 e4 after : Entries) (k b : Bool) → k ≡ kept? true (kept_table (task_of s.task) v) →
+          (es e1 e2 e3 e4 after : List Entry) (k b : Bool) → k ≡ kept? true (kept_table (task_of s.task) v) →
           b ≡ (k && asks? false (asks_of s.task.want v)) →
           Extends s neither (i + 1) es e1 → Extends s zero (i + 1) e1 e2 → Puts k i true e2 e3 → Extends s one (i + 1) e3 e4 → Puts b i false e4 after →
           Extends s set i es after
@@ -154,7 +153,9 @@ module _ (s : Recipes) (set : LatchSet) (i : ℕ) (l : i < s.order.count) where
             let a2 = x2.parts (on_side t false v W) (λ u h. zeros u ∙ ap (λ (o : Bool). o && side? t false v u) (others_as u h)) in
             let a4 = x4.parts (on_side t true v W) (λ u h. ones u ∙ ap (λ (o : Bool). o && side? t true v u) (others_as u h)) in
             joined_parts (parts_of s.order es) (set_route t table later (on_neither t v W)) (set_route t table later (on_side t false v W))
-            (set_route t table later (on_side t true v W)) _ _ _ _ _ (when k (recipe_of v true)) (when b (recipe_of v false)) a1 a2 (p3.parts s.order) a4 (p5.parts s.order)
+            (set_route t table later (on_side t true v W)) _ _ _ _ _ (when k (recipe_of v true)) (when b (recipe_of v false)) a1 a2
+            (p3.parts s.order ∙ ap (λ (w : ℕ). parts_of s.order e2 ++ when k (recipe_of w true)) (sym at)) a4
+            (p5.parts s.order ∙ ap (λ (w : ℕ). parts_of s.order e4 ++ when b (recipe_of w false)) (sym at))
             ∙ ap₂ {A = Bool} {B = Bool} (λ c d. parts_of s.order es ++ (set_route t table later (on_neither t v W)
             ++ (set_route t table later (on_side t false v W)
             ++ (when c (recipe_of v true) ++ (set_route t table later (on_side t true v W) ++ when d (recipe_of v false))))))

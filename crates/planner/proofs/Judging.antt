@@ -21,7 +21,7 @@ use Rattle.rules.proofs.Theorems.{normal_form_is_right, route_leads, no_way_is_n
 use Rattle.tasks.specs.declared.task.NormalTask.{NormalTask}
 use Rattle.tasks.specs.Asks.{asks_of}
 use Rattle.tasks.specs.Tasks.{task_of}
-use Rattle.planner.specs.declared.route.table.Route.{Route}
+use Rattle.planner.specs.declared.route.tabled.Route.{Route}
 use Rattle.planner.specs.Plans.{errand_task, refusal, Planned, LeadsThere, Says}
 use Rattle.planner.specs.Routes.{moves_of}
 use Rattle.planner.proofs.Serving.{asked_one}

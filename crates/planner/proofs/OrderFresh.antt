@@ -1,7 +1,7 @@
 -- Each latch of the order is one of the task and does not stand before.
-use Rattle.std.proofs.Common.{◌≡◌, ℕ, zero, suc, ◌<◌, ◌≤◌, not, List, [], ◌∷◌, reverse, length, get_or, take, sym, refl, ap, ◌∙◌, subst, inl, inr, add-one, arith}
+use Rattle.std.proofs.Common.{◌≡◌, ℕ, zero, suc, ◌<◌, ◌≤◌, not, List, [], ◌∷◌, reverse, length, get_or, sym, refl, ap, ◌∙◌, subst, inl, inr, add-one, arith}
 use mathlib.Core.Option.{Option, none, some}
-use Rattle.std.proofs.lemmas.List.{reverse-reverse}
+use Rattle.std.proofs.lemmas.List.{reverse-reverse, length-take, take_all}
 use Rattle.std.proofs.lemmas.Bool.{both_ways, and_parts, not-true}
 use Rattle.theory.specs.Searches.{In, has, lowest}
 use Rattle.theory.specs.Tasks.{Task}
@@ -48,14 +48,14 @@ behind_at Q latches (suc n) h b k l =
     ]
 
 -- the order, the last first, is what is placed
-pub order_before : (t : Task) (latches : List ℕ) (n : ℕ) → take n latches ≡ order t → before latches n ≡ latest_first t
+pub order_before : (t : Task) (vs : List ℕ) → vs ≡ order t → before vs (length vs) ≡ latest_first t
 unfolding order
-order_before t latches n e = ap reverse e ∙ reverse-reverse (latest_first t)
+order_before t vs e = ap reverse (take_all (length vs) vs (omega arith) ∙ e) ∙ reverse-reverse (latest_first t)
 
-pub fresh_at : (t : Task) (latches : List ℕ) (n : ℕ) → take n latches ≡ order t → n ≤ length latches → (k : ℕ) → k < n → Fresh t (before latches k) (get_or latches k 0)
+pub fresh_at : (t : Task) (vs : List ℕ) → vs ≡ order t → (k : ℕ) → k < length vs → Fresh t (before vs k) (get_or vs k 0)
 unfolding latest_first
-fresh_at t latches n e h k l =
-    behind_at (Fresh t) latches n h (subst (Behind (Fresh t)) (sym (order_before t latches n e)) (placing_fresh t t.width [] tt)) k l
+fresh_at t vs e k l =
+    behind_at (Fresh t) vs (length vs) (omega arith) (subst (Behind (Fresh t)) (sym (order_before t vs e)) (placing_fresh t t.width [] tt)) k l
 
 -- a latch stands before each later place
 pub in_before : (latches : List ℕ) (k i : ℕ) → i < k → k ≤ length latches → In (before latches k) (get_or latches i 0)
@@ -65,7 +65,9 @@ in_before latches (suc k) i l h =
     (elim (below_cases i k l) [ inl a ↦ inr (in_before latches k i a (omega arith)) | inr e ↦ inl (ap (λ (j : ℕ). get_or latches j 0) (sym e)) ])
 
 -- a latch of the order is one that there can be
-pub latch_below : (t : NormalTask) (o : Order) → order_of o ≡ order (task_of t) → (k : ℕ) → k < o.count → get_or o.latches k 0 < most_latches
-latch_below t o e k l =
-    let below = (fresh_at (task_of t) o.latches o.count e (omega (arith, o.room, o.places)) k l).0 in
-    omega (arith, t.narrow)
+pub latch_below : (t : NormalTask) (vs : List ℕ) → vs ≡ order (task_of t) → (k : ℕ) → k < length vs → get_or vs k 0 < most_latches
+latch_below t vs e k l = let below = (fresh_at (task_of t) vs e k l).0 in omega (arith, t.narrow)
+
+-- an order has no more latches than there can be
+pub few : (o : Order) → length (order_of o) ≤ most_latches
+few o = omega (arith, length-take o.latches.count o.latches.places, o.latches.fits)

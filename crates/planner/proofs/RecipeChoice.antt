@@ -1,13 +1,14 @@
 -- The recipe of a latch is made by the first move that serves.
-use Rattle.std.proofs.Common.{◌≡◌, ℕ, zero, suc, ◌+◌, ◌<◌, ◌≤◌, Bool, true, false, cond, List, [], ◌∷◌, map, length, get_or, take, filter, sym, refl, ap, ◌∙◌, subst, inl, inr, arith}
+use Rattle.std.proofs.Common.{◌≡◌, ℕ, zero, suc, ◌+◌, ◌<◌, ◌≤◌, Bool, true, false, cond, List, [], ◌∷◌, map, length, get_or, filter, sym, refl, ap, ◌∙◌, subst, inl, inr, arith}
 use mathlib.Core.Option.{none, some}
-use Rattle.std.proofs.lemmas.List.{get_or-take, get_or_read, length-take}
+use Rattle.std.proofs.lemmas.List.{get_or_read}
 use Rattle.words.specs.declared.LatchSet.{LatchSet}
 use Rattle.words.specs.Sets.{Below}
 use Rattle.theory.specs.Tasks.{Move}
 use Rattle.theory.specs.Recipes.{Table, opened, recipe_with, serves?, recipe_parts, chosen, recipe}
 use Rattle.theory.specs.Recipes.{Recipe as RecipeMeant}
 use Rattle.theory.proofs.Searches.{below_cases}
+use Rattle.table.specs.Items.{items}
 use Rattle.tasks.specs.declared.task.NormalMove.{NormalMove}
 use Rattle.tasks.specs.declared.task.NormalTask.{NormalTask}
 use Rattle.tasks.specs.Places.{no_move, move_at}
@@ -42,48 +43,30 @@ module _ (test : Move → Bool) (make : Move → RecipeMeant) where
       ∙ first_chosen ms i (omega arith) (λ k a. h (suc k) (omega arith)) e
 
 module _ (t : NormalTask) where
-  all : List NormalMove
-  all = take t.count t.moves
-
-  many_all : length all ≡ t.count
-  unfolding all
-  many_all = length-take t.count t.moves ∙ omega (arith, t.room, t.places)
-
-  at_all : (k : ℕ) → k < t.count → move_at all k ≡ move_at t.moves k
-  unfolding all
-  at_all k l = get_or-take t.count t.moves k no_move l
-
   -- the move that a loop over the moves of the task reads
   pub move_read :
-      (ms : List NormalMove) (i : ℕ) (m : NormalMove) → ms ≡ take t.count t.moves → i < length ms → m ≡ get_or ms i m →
-      (i < t.count) × (m ≡ move_at t.moves i)
-  unfolding all
-  move_read ms i m e l r =
-      let below : i < t.count = omega (arith, many_all, ap (λ (ks : List NormalMove). length ks) e) in (
-        below,
-        get_or_read ms i m l r no_move ∙ ap (λ (ks : List NormalMove). move_at ks i) e ∙ at_all i below,
-      )
-
-  -- there are as many of them as the task has
-  pub moves_many : (ms : List NormalMove) → ms ≡ take t.count t.moves → length ms ≡ t.count
-  unfolding all
-  moves_many ms e = ap (λ (ks : List NormalMove). length ks) e ∙ many_all
+      (ms : List NormalMove) (i : ℕ) (m : NormalMove) → ms ≡ items t.moves → i < length ms → m ≡ get_or ms i m →
+      (i < length (items t.moves)) × (m ≡ move_at (items t.moves) i)
+  move_read ms i m e l r = (
+    omega (arith, ap length e),
+    get_or_read ms i m l r no_move ∙ ap (λ (ks : List NormalMove). move_at ks i) e,
+  )
 
   -- it asks latches of the task alone
-  pub read_within : (i : ℕ) (m : NormalMove) → (i < t.count) × (m ≡ move_at t.moves i) → Below t.width m.asks.named
+  pub read_within : (i : ℕ) (m : NormalMove) → (i < length (items t.moves)) × (m ≡ move_at (items t.moves) i) → Below t.width m.asks.named
   read_within i m r = subst (λ (k : NormalMove). Below t.width k.asks.named) (sym r.1) (t.within i r.0)
 
   module _ (kept : Table) (v : ℕ) (x : Bool) where
     -- no move before place i serves
     abbrev pub NoneServes : ℕ → Type 0
-    NoneServes i = (k : ℕ) → k < i → test_at (serves? (task_of t) kept v x) t.moves k ≡ false
+    NoneServes i = (k : ℕ) → k < i → test_at (serves? (task_of t) kept v x) (items t.moves) k ≡ false
 
     -- one more does not
-    pub none_more : (i : ℕ) → NoneServes i → test_at (serves? (task_of t) kept v x) t.moves i ≡ false → NoneServes (i + 1)
+    pub none_more : (i : ℕ) → NoneServes i → test_at (serves? (task_of t) kept v x) (items t.moves) i ≡ false → NoneServes (i + 1)
     none_more i h e k l =
         elim (below_cases k i (omega arith)) [
           | inl a ↦ h k a
-          | inr s ↦ ap (test_at (serves? (task_of t) kept v x) t.moves) s ∙ e
+          | inr s ↦ ap (test_at (serves? (task_of t) kept v x) (items t.moves)) s ∙ e
         ]
 
     -- what a move makes
@@ -91,26 +74,22 @@ module _ (t : NormalTask) where
     by placed m = recipe_with kept (recipe_parts (task_of t) v m placed)
 
     -- no recipe is made where no move serves
-    pub none_made : (placed : List ℕ) → NoneServes t.count → recipe (task_of t) kept placed v x ≡ none
-    unfolding by all
+    pub none_made : (placed : List ℕ) → NoneServes (length (items t.moves)) → recipe (task_of t) kept placed v x ≡ none
+    unfolding by
     none_made placed h =
-        none_chosen (serves? (task_of t) kept v x) (by placed) all
-        (λ k l. let b : k < t.count = omega (arith, many_all) in ap (λ (m : NormalMove). serves? (task_of t) kept v x (move_of m)) (at_all k b) ∙ h k b)
+        none_chosen (serves? (task_of t) kept v x) (by placed) (items t.moves) h
 
     -- the first move that serves makes the recipe
     pub first_made :
-        (placed : List ℕ) (n i : ℕ) (s : LatchSet) (many : ℕ) → i < t.count → NoneServes i → test_at (serves? (task_of t) kept v x) t.moves i ≡ true →
-        Helps (task_of t) v (move_of (move_at t.moves i)) s →
-        many ≡ length (opened kept (recipe_parts (task_of t) v (move_of (move_at t.moves i)) placed)) → many ≤ n →
+        (placed : List ℕ) (n i : ℕ) (s : LatchSet) (many : ℕ) → i < length (items t.moves) → NoneServes i → test_at (serves? (task_of t) kept v x) (items t.moves) i ≡ true →
+        Helps (task_of t) v (move_of (move_at (items t.moves) i)) s →
+        many ≡ length (opened kept (recipe_parts (task_of t) v (move_of (move_at (items t.moves) i)) placed)) → many ≤ n →
         Made t kept v placed x n (record { place = i; helpers = s; length = many })
-    unfolding by all
+    unfolding by
     first_made placed n i s many l h e helps counts short =
         let serving = serves? (task_of t) kept v x in record {
           is =
-              first_chosen serving (by placed) all i (omega (arith, many_all))
-              (λ k a. let b : k < t.count = omega arith in ap (λ (m : NormalMove). serving (move_of m)) (at_all k b) ∙ h k a)
-              (ap (λ (m : NormalMove). serving (move_of m)) (at_all i l) ∙ e)
-              ∙ ap (λ (m : NormalMove). some (by placed (move_of m))) (at_all i l);
+              first_chosen serving (by placed) (items t.moves) i l h e;
           stands = record {
             within = l;
             helps = helps;

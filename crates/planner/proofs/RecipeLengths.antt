@@ -7,7 +7,7 @@ use Rattle.theory.specs.Tasks.{Move, Task}
 use Rattle.theory.specs.Recipes.{Table, moves_to, recipe_parts, opened}
 use Rattle.theory.proofs.Lengths.{three_pow_le}
 use Rattle.theory.proofs.Opening.{opened_alone, opened_unhelped, opened_helped}
-use Rattle.planner.specs.declared.recipes.table.RecipeTable.{RecipeTable}
+use Rattle.planner.specs.declared.recipes.recipe_table.RecipeTable.{RecipeTable}
 use Rattle.planner.specs.RecipesKept.{Helps, Lengths, Short, recipe_at, before}
 
 -- one more latch is placed behind the others
@@ -32,17 +32,18 @@ pub powers_fit : (i : ℕ) → i < 32 → 3 * 3 ^ i < 2 ^ 64
 powers_fit i l = let most : 3 ^ i ≤ 3 ^ 31 = three_pow_le i 31 (omega arith) in omega arith
 
 -- the latch at place i, read among the first n
-module _ (latches : List ℕ) (table : RecipeTable) (helpers : LatchSet) (n i : ℕ) (l : i < n) (room : n ≤ length latches) where
-  read : get_or (take n latches) i 0 ≡ get_or latches i 0
-  read = get_or-take n latches i 0 l
+module _ (latches : List ℕ) (table : RecipeTable) (helpers : LatchSet) (n i : ℕ) (l : i < n) (room : n ≤ length latches) (xs : List ℕ)
+    (first : xs ≡ take n latches) where
+  read : get_or xs i 0 ≡ get_or latches i 0
+  read = ap (λ (us : List ℕ). get_or us i 0) first ∙ get_or-take n latches i 0 l
 
   -- its recipes are short
-  pub short_at : Short latches n table → (x : Bool) → (recipe_at x table (get_or (take n latches) i 0)).length ≤ 3 ^ i
+  pub short_at : Short latches n table → (x : Bool) → (recipe_at x table (get_or xs i 0)).length ≤ 3 ^ i
   short_at short x = subst (λ (u : ℕ). (recipe_at x table u).length ≤ 3 ^ i) (sym read) (short i l x)
 
   -- it adds nothing if it does not help
   pub counted_unhelped :
-      (many : ℕ) → has helpers (get_or (take n latches) i 0) ≡ false → Counted latches table helpers i many → Counted latches table helpers (i + 1) many
+      (many : ℕ) → has helpers (get_or xs i 0) ≡ false → Counted latches table helpers i many → Counted latches table helpers (i + 1) many
   counted_unhelped many h so_far t v m kept helps same =
       so_far t v m kept helps same
       ∙ sym (ap length (ap (λ (us : List ℕ). opened kept (recipe_parts t v m us)) (before_more latches i (omega arith))
@@ -50,8 +51,8 @@ module _ (latches : List ℕ) (table : RecipeTable) (helpers : LatchSet) (n i : 
 
   -- a helper adds its two recipes
   pub counted_helped :
-      (many one other : ℕ) → has helpers (get_or (take n latches) i 0) ≡ true → one ≡ (recipe_at true table (get_or (take n latches) i 0)).length →
-      other ≡ (recipe_at false table (get_or (take n latches) i 0)).length → Counted latches table helpers i many →
+      (many one other : ℕ) → has helpers (get_or xs i 0) ≡ true → one ≡ (recipe_at true table (get_or xs i 0)).length →
+      other ≡ (recipe_at false table (get_or xs i 0)).length → Counted latches table helpers i many →
       Counted latches table helpers (i + 1) (many + (one + other))
   counted_helped many one other h e f so_far t v m kept helps same =
       let u = get_or latches i 0 in

@@ -6,7 +6,7 @@ use Rattle.theory.specs.Tasks.{Ask, asks?}
 use Rattle.theory.specs.Recipes.{Kept, none_kept, one_kept, both_kept, Table, keep}
 use Rattle.theory.specs.Recipes.{Recipe as RecipeMeant}
 use Rattle.planner.specs.declared.recipes.recipe.Recipe.{Recipe}
-use Rattle.planner.specs.declared.recipes.table.Kept.TheVariants.{Neither, One, Both}
+use Rattle.planner.specs.declared.recipes.recipe_table.Kept.TheVariants.{Neither, One, Both}
 use Rattle.tasks.specs.declared.task.NormalTask.{NormalTask}
 use Rattle.tasks.specs.Asks.{asks_of}
 use Rattle.tasks.specs.Tasks.{task_of}

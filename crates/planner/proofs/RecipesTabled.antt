@@ -1,5 +1,5 @@
 -- The table latch by latch: nothing is kept at first, and each latch of the order adds what is kept of it.
-use Rattle.std.proofs.Common.{◌≡◌, ℕ, zero, suc, ◌+◌, ◌^◌, ◌<◌, ◌≤◌, true, ◌≢◌, List, ◌∷◌, length, get_or, set, take, replicate, is_some, sym, refl, ap, ◌∙◌, subst, subst₂, inl, inr, arith, get_or-set_other, get_or-set_same}
+use Rattle.std.proofs.Common.{◌≡◌, ℕ, zero, suc, ◌+◌, ◌^◌, ◌<◌, ◌≤◌, true, ◌≢◌, List, ◌∷◌, length, get_or, set, replicate, is_some, sym, refl, ap, ◌∙◌, subst, subst₂, inl, inr, arith, get_or-set_other, get_or-set_same}
 use Rattle.std.proofs.lemmas.Bool.{cases_eq}
 use Rattle.words.specs.Sets.{most_latches}
 use Rattle.theory.specs.Searches.{In}
@@ -8,9 +8,9 @@ use Rattle.theory.specs.Recipes.{Kept, kept?, recipe_to, moves_to, Table, table_
 use Rattle.theory.specs.Route.{kept_table}
 use Rattle.theory.proofs.Searches.{below_cases}
 use Rattle.theory.proofs.Tables.{table_head, table_tail}
-use Rattle.planner.specs.declared.recipes.table.Kept.{Kept as KeptRecipes}
-use Rattle.planner.specs.declared.recipes.table.Kept.TheVariants.{Neither}
-use Rattle.planner.specs.declared.recipes.table.RecipeTable.{RecipeTable}
+use Rattle.planner.specs.declared.recipes.recipe_table.Kept.{Kept as KeptRecipes}
+use Rattle.planner.specs.declared.recipes.recipe_table.Kept.TheVariants.{Neither}
+use Rattle.planner.specs.declared.recipes.recipe_table.RecipeTable.{RecipeTable}
 use Rattle.tasks.specs.declared.task.NormalTask.{NormalTask}
 use Rattle.tasks.specs.Tasks.{task_of}
 use Rattle.planner.specs.RecipesKept.{before, recipe_in, recipe_or, kept_at, kept_in?, recipe_at, StandsFor, Held, Tabled, kept_last}
@@ -108,9 +108,9 @@ module _ (t : NormalTask) (latches : List ℕ) (k : ℕ) (table : RecipeTable) (
 
 -- with all latches of the order placed, it stands for the table of the task
 pub all_tabled :
-    (t : NormalTask) (latches : List ℕ) (n k : ℕ) (table : RecipeTable) → k ≡ n → take n latches ≡ order (task_of t) →
-    Tabled t latches k (table_of (task_of t) (before latches k)) table → Tabled t latches n (kept_table (task_of t)) table
+    (t : NormalTask) (vs : List ℕ) (k : ℕ) (table : RecipeTable) → k ≡ length vs → vs ≡ order (task_of t) →
+    Tabled t vs k (table_of (task_of t) (before vs k)) table → Tabled t vs (length vs) (kept_table (task_of t)) table
 unfolding kept_table
-all_tabled t latches n k table e same tabled =
-    subst (λ (us : List ℕ). Tabled t latches n (table_of (task_of t) us) table) (order_before (task_of t) latches n same)
-    (subst (λ (i : ℕ). Tabled t latches i (table_of (task_of t) (before latches i)) table) e tabled)
+all_tabled t vs k table e same tabled =
+    subst (λ (us : List ℕ). Tabled t vs (length vs) (table_of (task_of t) us) table) (order_before (task_of t) vs same)
+    (subst (λ (i : ℕ). Tabled t vs i (table_of (task_of t) (before vs i)) table) e tabled)

@@ -1,6 +1,6 @@
 -- The latches of the order from a place on, and how many of them are in a set.
-use Rattle.std.proofs.Common.{◌≡◌, ℕ, zero, suc, ◌+◌, ◌<◌, ◌≤◌, Bool, true, false, cond, List, [], ◌∷◌, length, get_or, drop, sym, refl, ap, ◌∙◌, subst, ap₂, inl, inr, arith}
-use Rattle.std.proofs.lemmas.List.{drop_more, drop_all, get_or-take, length-take-le}
+use Rattle.std.proofs.Common.{◌≡◌, ℕ, zero, suc, ◌+◌, ◌<◌, ◌≤◌, Bool, true, false, cond, List, [], ◌∷◌, length, get_or, drop, sym, refl, ap, subst, ap₂, inl, inr, arith}
+use Rattle.std.proofs.lemmas.List.{drop_more, drop_all}
 use Rattle.theory.specs.Searches.{In}
 use Rattle.tasks.specs.declared.task.NormalTask.{NormalTask}
 use Rattle.tasks.specs.Tasks.{task_of}
@@ -20,39 +20,27 @@ in_drop (suc i) [] u h = absurd h
 in_drop (suc i) (x ∷ xs) u h = let p = in_drop i xs u h in (suc p.0, (omega (arith, p.1.0), omega (arith, p.1.1), p.1.2))
 
 module _ (order : Order) where
-  room : order.count ≤ length order.latches
-  room = omega (arith, order.room, order.places)
-
-  counted : length (order_of order) ≡ order.count
-  counted = length-take-le order.count order.latches room
-
   -- the next latch is the first of the rest
-  pub rest_next : (i : ℕ) → i < order.count → rest order i ≡ latch_at order i ∷ rest order (i + 1)
-  rest_next i l =
-      drop_more (order_of order) i 0 (omega (arith, counted))
-      ∙ ap (λ (v : ℕ). v ∷ rest order (i + 1)) (get_or-take order.count order.latches i 0 l)
+  pub rest_next : (i : ℕ) → i < length (order_of order) → rest order i ≡ latch_at order i ∷ rest order (i + 1)
+  rest_next i l = drop_more (order_of order) i 0 l
 
-  pub rest_end : (i : ℕ) → order.count ≤ i → rest order i ≡ []
-  rest_end i l = drop_all i (order_of order) (omega (arith, counted))
+  pub rest_end : (i : ℕ) → length (order_of order) ≤ i → rest order i ≡ []
+  rest_end i l = drop_all i (order_of order) l
 
   module _ (t : NormalTask) (ordered : Orders t order) where
-    pub rest_fresh : (i : ℕ) → i < order.count → In (rest order (i + 1)) (latch_at order i) → ⊥
+    pub rest_fresh : (i : ℕ) → i < length (order_of order) → In (rest order (i + 1)) (latch_at order i) → ⊥
     rest_fresh i l h =
         let p = in_drop (i + 1) (order_of order) (latch_at order i) h in
-        let j = p.0 in
-        let below : j < order.count = omega (arith, p.1.1, counted) in
-        let same : get_or order.latches j 0 ≡ latch_at order i = sym (get_or-take order.count order.latches j 0 below) ∙ p.1.2 in
-        (fresh_at (task_of t) order.latches order.count ordered room j below).1
-        (subst (In (before order.latches j)) (sym same) (in_before order.latches j i (omega (arith, p.1.0)) (omega (arith, room))))
+        (fresh_at (task_of t) (order_of order) ordered p.0 p.1.1).1
+        (subst (In (before (order_of order) p.0)) (sym p.1.2) (in_before (order_of order) p.0 i (omega (arith, p.1.0)) (omega (arith, p.1.1))))
 
-    pub latch_within : (i : ℕ) → i < order.count → latch_at order i < t.width
-    latch_within i l = (fresh_at (task_of t) order.latches order.count ordered room i l).0
+    pub latch_within : (i : ℕ) → i < length (order_of order) → latch_at order i < t.width
+    latch_within i l = (fresh_at (task_of t) (order_of order) ordered i l).0
 
     pub rest_within : (i u : ℕ) → In (rest order i) u → u < t.width
     rest_within i u h =
         let p = in_drop i (order_of order) u h in
-        let below : p.0 < order.count = omega (arith, p.1.1, counted) in
-        subst (λ (v : ℕ). v < t.width) (sym (get_or-take order.count order.latches p.0 0 below) ∙ p.1.2) (latch_within p.0 below)
+        subst (λ (v : ℕ). v < t.width) p.1.2 (latch_within p.0 p.1.1)
 
 -- sets that agree on a list have as many of its latches
 pub size_alike : (W W' : ℕ → Bool) (vs : List ℕ) → ((u : ℕ) → In vs u → W u ≡ W' u) → size W vs ≡ size W' vs

@@ -16,6 +16,7 @@ use Rattle.planner.specs.Lookup.{nth, helped, in_turn}
 use Rattle.planner.specs.Made.{numbers, recipe_numbers, latch_at}
 use Rattle.planner.specs.RecipesKept.{before}
 use Rattle.planner.proofs.Nth.{nth_left, nth_behind}
+use Rattle.planner.specs.Orders.{order_of}
 
 -- the recipes of a list and one more latch
 helped_last : (t : NormalTask) (x : Bool) (s : LatchSet) (vs : List ℕ) (u : ℕ) → helped t x s (vs ++ (u ∷ [])) ≡ helped t x s vs ++ cond (has s u) (recipe_numbers t x u) []
@@ -65,27 +66,27 @@ module _ (t : NormalTask) (v : ℕ) (m : Move) (s : LatchSet) (helps : (u : ℕ)
       ]
 
 -- the latches in turn
-module _ (order : Order) (n : ℕ) (room : n ≤ order.count) where
-  inside : n ≤ length order.latches
-  inside = omega (arith, order.room, order.places)
+module _ (order : Order) (n : ℕ) (room : n ≤ length (order_of order)) where
+  inside : n ≤ length (order_of order)
+  inside = room
 
   pub turns : (x : Bool) → length (in_turn order x n) ≡ n
-  turns true = length-reverse (take n order.latches) ∙ length-take-le n order.latches inside
-  turns false = length-take-le n order.latches inside
+  turns true = length-reverse (take n (order_of order)) ∙ length-take-le n (order_of order) inside
+  turns false = length-take-le n (order_of order) inside
 
   pub last_first : (k : ℕ) → k < n → latch_at order (n - 1 - k) ≡ get_or (in_turn order true n) k 0
   last_first k l =
-      let len = length-take-le n order.latches inside in
-      let place : length (take n order.latches) - 1 - k ≡ n - 1 - k = omega (arith, len) in
-      sym (get_or-reverse (take n order.latches) k 0 (omega (arith, len))
-      ∙ ap (λ (j : ℕ). get_or (take n order.latches) j 0) place ∙ get_or-take n order.latches (n - 1 - k) 0 (omega arith))
+      let len = length-take-le n (order_of order) inside in
+      let place : length (take n (order_of order)) - 1 - k ≡ n - 1 - k = omega (arith, len) in
+      sym (get_or-reverse (take n (order_of order)) k 0 (omega (arith, len))
+      ∙ ap (λ (j : ℕ). get_or (take n (order_of order)) j 0) place ∙ get_or-take n (order_of order) (n - 1 - k) 0 (omega arith))
 
   pub first_first : (k : ℕ) → k < n → latch_at order k ≡ get_or (in_turn order false n) k 0
-  first_first k l = sym (get_or-take n order.latches k 0 l)
+  first_first k l = sym (get_or-take n (order_of order) k 0 l)
 
   -- the latches before, in their order
-  pub in_order : reverse (before order.latches n) ≡ in_turn order false n
-  in_order = reverse-reverse (take n order.latches)
+  pub in_order : reverse (before (order_of order) n) ≡ in_turn order false n
+  in_order = reverse-reverse (take n (order_of order))
 
 -- one turn: the latch is no helper; the place is in its recipe; it is behind
 module _ (t : NormalTask) (x : Bool) (s : LatchSet) (vs : List ℕ) (k : ℕ) (l : k < length vs) (ys : List ℕ) where

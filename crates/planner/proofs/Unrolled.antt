@@ -13,8 +13,9 @@ use Rattle.rules.specs.NormalForm.{number_of}
 use Rattle.tasks.specs.declared.task.NormalTask.{NormalTask}
 use Rattle.tasks.specs.Tasks.{task_of}
 use Rattle.planner.specs.declared.order.list.Order.{Order}
-use Rattle.planner.specs.declared.recipes.table.RecipeTable.{RecipeTable}
+use Rattle.planner.specs.declared.recipes.recipe_table.RecipeTable.{RecipeTable}
 use Rattle.planner.specs.Made.{numbers, latch_at, move_by, Orders, Counts, Within, Helpers, Opens}
+use Rattle.planner.specs.Orders.{order_of}
 use Rattle.planner.specs.RecipesKept.{before, Tabled}
 use Rattle.planner.proofs.OrderFresh.{before_next, fresh_at, in_before, order_before}
 
@@ -81,7 +82,7 @@ module _ (t : Task) (latches : List ℕ) (n : ℕ) (fresh : (k : ℕ) → k < n 
 
 -- the tables of a task's recipes
 module _ (t : NormalTask) (order : Order) (table : RecipeTable) (ordered : Orders t order)
-    (tabled : Tabled t order.latches order.count (kept_table (task_of t)) table) where
+    (tabled : Tabled t (order_of order) (length (order_of order)) (kept_table (task_of t)) table) where
   pub counts : Counts t table
   counts x u = tabled.lengths x u ∙ sym (length-map (moves_to x (kept_table (task_of t) u)) number_of)
 
@@ -94,13 +95,12 @@ module _ (t : NormalTask) (order : Order) (table : RecipeTable) (ordered : Order
   pub opens : (x : Bool) → Opens x t order table
   unfolding kept_table
   opens x i h =
-      let room : order.count ≤ length order.latches = omega (arith, order.room, order.places) in
-      let all = order_before (task_of t) order.latches order.count ordered in
-      let fresh : (k : ℕ) → k < order.count → In (before order.latches k) (get_or order.latches k 0) → ⊥ =
-      λ k l. (fresh_at (task_of t) order.latches order.count ordered room k l).1 in
+      let all = order_before (task_of t) (order_of order) ordered in
+      let fresh : (k : ℕ) → k < length (order_of order) → In (before (order_of order) k) (get_or (order_of order) k 0) → ⊥ =
+      λ k l. (fresh_at (task_of t) (order_of order) ordered k l).1 in
       subst (λ (us : List ℕ). kept? x (table_of (task_of t) us (latch_at order i)) ≡ true →
-      (recipe_to x (table_of (task_of t) us (latch_at order i))).parts ≡ recipe_parts (task_of t) (latch_at order i) (move_by t order table x i) (before order.latches i) →
+      (recipe_to x (table_of (task_of t) us (latch_at order i))).parts ≡ recipe_parts (task_of t) (latch_at order i) (move_by t order table x i) (before (order_of order) i) →
       numbers (moves_to x (table_of (task_of t) us (latch_at order i)))
-      ≡ numbers (opened (table_of (task_of t) us) (recipe_parts (task_of t) (latch_at order i) (move_by t order table x i) (before order.latches i)))) all
-      (λ k p. ap numbers (moves_unrolled (task_of t) order.latches order.count fresh room i x (move_by t order table x i) h.0 k p))
+      ≡ numbers (opened (table_of (task_of t) us) (recipe_parts (task_of t) (latch_at order i) (move_by t order table x i) (before (order_of order) i)))) all
+      (λ k p. ap numbers (moves_unrolled (task_of t) (order_of order) (length (order_of order)) fresh (omega arith) i x (move_by t order table x i) h.0 k p))
       h.1 (tabled.stands i h.0 x h.1).parts

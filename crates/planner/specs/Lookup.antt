@@ -12,6 +12,7 @@ use Rattle.tasks.specs.declared.task.NormalTask.{NormalTask}
 use Rattle.planner.specs.declared.lookup.place.Inside.{Inside}
 use Rattle.planner.specs.declared.order.list.Order.{Order}
 use Rattle.planner.specs.Made.{recipe_numbers, latch_at}
+use Rattle.planner.specs.Orders.{order_of}
 use Rattle.planner.specs.RecipesKept.{before}
 
 -- what stands at a place
@@ -26,8 +27,8 @@ helped t x s vs = flat_map (λ u. cond (has s u) (recipe_numbers t x u) []) vs
 
 -- helpers are thrown to 1 last placed first, and to 0 first placed first
 abbrev pub in_turn : Order → Bool → ℕ → List ℕ
-in_turn order true n = before order.latches n
-in_turn order false n = take n order.latches
+in_turn order true n = before (order_of order) n
+in_turn order false n = take n (order_of order)
 
 -- the place is in the recipe of one of the latches
 pub record Holds (t : NormalTask) (order : Order) (x : Bool) (s : LatchSet) (n k : ℕ) (w : Inside) : Type 0 where

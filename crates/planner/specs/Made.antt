@@ -17,11 +17,12 @@ use Rattle.theory.specs.Order.{order as order_meant}
 use Rattle.theory.specs.Recipes.{kept?, moves_to, helper?, recipe_parts, opened}
 use Rattle.theory.specs.Route.{kept_table}
 use Rattle.rules.specs.NormalForm.{number_of}
+use Rattle.table.specs.Items.{items}
 use Rattle.tasks.specs.declared.task.NormalTask.{NormalTask}
 use Rattle.tasks.specs.Places.{move_at}
 use Rattle.tasks.specs.Tasks.{move_of, task_of}
 use Rattle.planner.specs.declared.order.list.Order.{Order}
-use Rattle.planner.specs.declared.recipes.table.RecipeTable.{RecipeTable}
+use Rattle.planner.specs.declared.recipes.recipe_table.RecipeTable.{RecipeTable}
 use Rattle.planner.specs.Orders.{order_of}
 use Rattle.planner.specs.RecipesKept.{before, kept_in?, recipe_at}
 
@@ -35,7 +36,7 @@ recipe_numbers t x u = numbers (moves_to x (kept_table (task_of t) u))
 
 -- the latch at a place
 abbrev pub latch_at : Order → ℕ → ℕ
-latch_at order i = slice_index order.latches i
+latch_at order i = slice_index (order_of order) i
 
 -- the recipe to x is kept
 abbrev pub kept_place? : NormalTask → Order → Bool → ℕ → Bool
@@ -43,7 +44,7 @@ kept_place? t order x i = kept? x (kept_table (task_of t) (latch_at order i))
 
 -- the move of a recipe
 abbrev pub move_by : NormalTask → Order → RecipeTable → Bool → ℕ → Move
-move_by t order table x i = move_of (move_at t.moves (recipe_at x table (latch_at order i)).place)
+move_by t order table x i = move_of (move_at (items t.moves) (recipe_at x table (latch_at order i)).place)
 
 -- the order of the task
 abbrev pub Orders : NormalTask → Order → Type 0
@@ -60,17 +61,17 @@ Counts t table = (x : Bool) (u : ℕ) → (recipe_at x table u).length ≡ lengt
 -- the moves of recipes stand in the task
 abbrev pub Within : NormalTask → Order → RecipeTable → Type 0
 Within t order table =
-    (x : Bool) (i : ℕ) → (i < order.count) × (kept_place? t order x i ≡ true) → (recipe_at x table (latch_at order i)).place < t.count
+    (x : Bool) (i : ℕ) → (i < length (order_of order)) × (kept_place? t order x i ≡ true) → (recipe_at x table (latch_at order i)).place < length (items t.moves)
 
 -- the helpers of recipes
 abbrev pub Helpers : Bool → NormalTask → Order → RecipeTable → Type 0
 Helpers x t order table =
-    (i : ℕ) → (i < order.count) × (kept_place? t order x i ≡ true) → (u : ℕ) →
+    (i : ℕ) → (i < length (order_of order)) × (kept_place? t order x i ≡ true) → (u : ℕ) →
     has (recipe_at x table (latch_at order i)).helpers u ≡ helper? (task_of t) (latch_at order i) (move_by t order table x i) u
 
 -- what recipes open to
 abbrev pub Opens : Bool → NormalTask → Order → RecipeTable → Type 0
 Opens x t order table =
-    (i : ℕ) → (i < order.count) × (kept_place? t order x i ≡ true) →
+    (i : ℕ) → (i < length (order_of order)) × (kept_place? t order x i ≡ true) →
     recipe_numbers t x (latch_at order i)
-    ≡ numbers (opened (kept_table (task_of t)) (recipe_parts (task_of t) (latch_at order i) (move_by t order table x i) (before order.latches i)))
+    ≡ numbers (opened (kept_table (task_of t)) (recipe_parts (task_of t) (latch_at order i) (move_by t order table x i) (before (order_of order) i)))

@@ -2,8 +2,9 @@
 --   Members s vs         the set s and the list vs have the same latches
 --   PlacedNext t vs o    o is the lowest latch that can be placed next behind those of vs, if there is one
 --   order_of o           the latches of o in order
-use Rattle.std.specs.Prelude.{◌≡◌, ℕ, List, take, Option, MatchOption}
+use Rattle.std.specs.Prelude.{◌≡◌, ℕ, List, Option, MatchOption}
 use Rattle.std.proofs.Math.Option.{none, some}
+use Rattle.table.specs.Items.{items}
 use Rattle.words.specs.declared.LatchSet.{LatchSet}
 use Rattle.words.specs.Sets.{has}
 use Rattle.theory.specs.Searches.{has as listed, lowest}
@@ -21,4 +22,4 @@ PlacedNext t vs o = MatchOption o (lowest (next? t vs) t.width ≡ none) (λ v. 
 
 -- the latches in order
 abbrev pub order_of : Order → List ℕ
-order_of o = take o.count o.latches
+order_of o = items o.latches

@@ -16,7 +16,7 @@ use Rattle.rules.specs.declared.refusal.Refusal.TheVariants.{Misfit, Misnamed, O
 use Rattle.rules.specs.Naming.{errand_of, Names, names?}
 use Rattle.rules.specs.NormalForm.{task, route}
 use Rattle.rules.specs.Rules.{Rules, Setting, Leads, MetBy, Way}
-use Rattle.planner.specs.declared.route.table.Route.{Route}
+use Rattle.planner.specs.declared.route.tabled.Route.{Route}
 use Rattle.planner.specs.Routes.{moves_of}
 
 -- the errand in normal form

@@ -30,10 +30,12 @@ use Rattle.theory.specs.Recipes.{Kept, Table, kept?, recipe_to, moves_to, helper
 use Rattle.theory.specs.Recipes.{Recipe as RecipeMeant}
 use Rattle.planner.specs.declared.order.list.Order.{Order}
 use Rattle.planner.specs.declared.recipes.recipe.Recipe.{Recipe}
-use Rattle.planner.specs.declared.recipes.table.Kept.{Kept as KeptRecipes}
-use Rattle.planner.specs.declared.recipes.table.Kept.TheVariants.{Neither, One, Both}
-use Rattle.planner.specs.declared.recipes.table.RecipeTable.{RecipeTable}
+use Rattle.planner.specs.declared.recipes.recipe_table.Kept.{Kept as KeptRecipes}
+use Rattle.planner.specs.declared.recipes.recipe_table.Kept.TheVariants.{Neither, One, Both}
+use Rattle.planner.specs.declared.recipes.recipe_table.RecipeTable.{RecipeTable}
+use Rattle.table.specs.Items.{items}
 use Rattle.tasks.specs.declared.task.NormalTask.{NormalTask}
+use Rattle.planner.specs.Orders.{order_of}
 use Rattle.tasks.specs.Places.{move_at}
 use Rattle.tasks.specs.Tasks.{move_of, task_of}
 
@@ -98,14 +100,14 @@ Short latches k table = (i : ℕ) → i < k → (x : Bool) → (recipe_at x tabl
 
 -- what a recipe stands for
 pub record StandsFor (t : NormalTask) (v : ℕ) (placed : List ℕ) (c : Recipe) (r : RecipeMeant) : Type 0 where
-  pub within : c.place < t.count
-  pub helps : Helps (task_of t) v (move_of (move_at t.moves c.place)) c.helpers
-  pub parts : r.parts ≡ recipe_parts (task_of t) v (move_of (move_at t.moves c.place)) placed
+  pub within : c.place < length (items t.moves)
+  pub helps : Helps (task_of t) v (move_of (move_at (items t.moves) c.place)) c.helpers
+  pub parts : r.parts ≡ recipe_parts (task_of t) v (move_of (move_at (items t.moves) c.place)) placed
   pub counted : c.length ≡ length r.moves
 
 -- the recipe by a move of the task
 abbrev pub recipe_by : NormalTask → Table → ℕ → List ℕ → Recipe → RecipeMeant
-recipe_by t kept v placed c = recipe_with kept (recipe_parts (task_of t) v (move_of (move_at t.moves c.place)) placed)
+recipe_by t kept v placed c = recipe_with kept (recipe_parts (task_of t) v (move_of (move_at (items t.moves) c.place)) placed)
 
 -- the recipe that was made, and what it stands for
 pub record Made (t : NormalTask) (kept : Table) (v : ℕ) (placed : List ℕ) (x : Bool) (n : ℕ) (c : Recipe) : Type 0 where
@@ -123,7 +125,7 @@ kept_last t kept placed v = keep (t.want v) (recipe t kept placed v true) (recip
 
 -- what is kept of the first latches of the order
 abbrev pub kept_behind : NormalTask → Order → ℕ → Table
-kept_behind t order k = table_of (task_of t) (before order.latches k)
+kept_behind t order k = table_of (task_of t) (before (order_of order) k)
 
 -- what the recipes of one latch stand for
 pub record Held (t : NormalTask) (v : ℕ) (placed : List ℕ) (n : ℕ) (k : Kept) (c : KeptRecipes) : Type 0 where

@@ -2,7 +2,7 @@
 mod kept;
 mod making;
 mod recipe;
-mod table;
+mod recipe_table;
 
 ghost use Rattle.std.specs.Prelude.{◌≡◌, ℕ};
 ghost use Rattle.words.specs.Sets.{has, Below};
@@ -17,7 +17,7 @@ use book::MOST_LATCHES;
 pub(crate) use kept::Recipes;
 use making::Making;
 pub(crate) use recipe::Recipe;
-use table::{Kept, RecipeTable};
+use recipe_table::{Kept, RecipeTable};
 use tasks::{NormalMove, NormalTask};
 use words::LatchSet;
 

@@ -1,10 +1,11 @@
 //! Routes: recipes along the order, with each splitting latch thrown between its two sides.
 mod entries;
 mod entry;
-mod table;
+mod tabled;
 
-ghost use Rattle.std.specs.Prelude.{◌≡◌, ℕ, ◌+◌, ◌*◌, ◌^◌, ◌<◌, ◌≤◌, true, ◌&&◌, [], length as length_of, take};
+ghost use Rattle.std.specs.Prelude.{◌≡◌, ℕ, ◌+◌, ◌*◌, ◌^◌, ◌<◌, ◌≤◌, true, ◌&&◌, [], length as length_of};
 ghost use Rattle.std.specs.List.{flat_map};
+ghost use Rattle.table.specs.Items.{items};
 ghost use Rattle.words.specs.Sets.{has};
 ghost use Rattle.planner.specs.Limits.{most_entries};
 ghost use Rattle.theory.specs.Class.{in_class?};
@@ -13,12 +14,14 @@ ghost use Rattle.tasks.specs.Tasks.{task_of};
 ghost use Rattle.planner.specs.Laid.{parts_of, Placed, rest, size, Puts, Extends};
 ghost use Rattle.planner.specs.Listed.{entry_numbers, route_numbers};
 ghost use Rattle.planner.specs.Lookup.{nth};
+ghost use Rattle.planner.specs.Orders.{order_of};
 ghost use Rattle.planner.specs.Routes.{moves_of};
 
 use crate::recipes::Recipes;
-use entries::{Entries, MOST_ENTRIES};
+use entries::Entries;
 use entry::Entry;
-pub use table::Route;
+use table::Table;
+pub use tabled::Route;
 use tasks::{NormalTask, is_asked};
 use words::LatchSet;
 
@@ -29,76 +32,77 @@ fn both(one: LatchSet, other: LatchSet) -> LatchSet
     one.difference(one.difference(other))
 }
 
-impl Entries {
-    /// Puts one more entry behind the others, if `put`.
-    fn push_if(&mut self, put: bool, place: u8, to: bool)
-        requires { self.old.count < most_entries }
-        ensures { Puts put place to self.old self.new }
-    {
-        if put {
-            self.list[self.count as usize] = Entry { place, to };
-            self.count += 1;
-        }
-    }
-
-    /// Puts the route of the latches of `set` behind the other entries, by their first latch from place `from` of the order on.
-    fn extend(&mut self, recipes: &Recipes, from: u8, set: LatchSet)
-        requires { (from ≤ recipes.now.order.count) × (self.old.count + 2 * size (has set) (rest recipes.now.order from) ≤ most_entries) }
-        ensures { Extends recipes.now set from self.old self.new }
-    {
-        if set.is_empty() || from >= recipes.order.count {
-            return;
-        }
-        let latch = recipes.order.latches[from as usize];
-        if !set.contains(latch) {
-            self.extend(recipes, from + 1, set);
-            return;
-        }
-        let others = set.without(latch);
-        if !recipes.splitting.contains(latch) {
-            self.extend(recipes, from + 1, others);
-            self.push_if(is_asked(recipes.task.want, true, latch), from, true);
-            return;
-        }
-        let zero = both(others, recipes.task.side(false, latch));
-        let one = both(others, recipes.task.side(true, latch));
-        let kept = recipes.table.recipe(latch, true).is_some();
-        self.extend(recipes, from + 1, others.difference(zero).difference(one));
-        self.extend(recipes, from + 1, zero);
-        self.push_if(kept, from, true);
-        self.extend(recipes, from + 1, one);
-        self.push_if(
-            kept && is_asked(recipes.task.want, false, latch),
-            from,
-            false,
-        );
+/// Puts one more entry behind the others, if `put`.
+fn push_if(entries: &mut Entries, put: bool, entry: Entry)
+    requires { length_of (items entries.old) < most_entries }
+    ensures { Puts put entry.place entry.to (items entries.old) (items entries.new) }
+{
+    if put {
+        entries.push(entry);
     }
 }
 
 impl Recipes {
+    /// Puts the route of the latches of `set` behind the entries, by their first latch from place `from` of the order on.
+    fn extend(&self, entries: &mut Entries, from: u8, set: LatchSet)
+        requires { (from ≤ length_of (order_of self.now.order)) × (length_of (items entries.old) + 2 * size (has set) (rest self.now.order from) ≤ most_entries) }
+        ensures { Extends self.now set from (items entries.old) (items entries.new) }
+    {
+        if set.is_empty() || from >= self.order.len() {
+            return;
+        }
+        let latch = self.order.latch(from);
+        if !set.contains(latch) {
+            self.extend(entries, from + 1, set);
+            return;
+        }
+        let to_one = Entry {
+            place: from,
+            to: true,
+        };
+        let others = set.without(latch);
+        if !self.splitting.contains(latch) {
+            self.extend(entries, from + 1, others);
+            push_if(entries, is_asked(self.task.want, true, latch), to_one);
+            return;
+        }
+        let zero = both(others, self.task.side(false, latch));
+        let one = both(others, self.task.side(true, latch));
+        let kept = self.table.recipe(latch, true).is_some();
+        self.extend(entries, from + 1, others.difference(zero).difference(one));
+        self.extend(entries, from + 1, zero);
+        push_if(entries, kept, to_one);
+        self.extend(entries, from + 1, one);
+        push_if(
+            entries,
+            kept && is_asked(self.task.want, false, latch),
+            Entry {
+                place: from,
+                to: false,
+            },
+        );
+    }
+
     /// The entries of the route.
     fn entries(&self) -> Entries
-        ensures placed { Placed self.now.order result }
-        ensures parts { parts_of self.now.order result ≡ entries_meant (task_of self.now.task) }
+        ensures placed { Placed self.now.order (items result) }
+        ensures parts { parts_of self.now.order (items result) ≡ entries_meant (task_of self.now.task) }
     {
-        let mut entries = Entries {
-            list: [Entry {
-                place: 0,
-                to: false,
-            }; MOST_ENTRIES],
-            count: 0,
-        };
-        entries.extend(self, 0, LatchSet::from(u32::MAX));
+        let mut entries = Table::new(Entry {
+            place: 0,
+            to: false,
+        });
+        self.extend(&mut entries, 0, LatchSet::from(u32::MAX));
         entries
     }
 
     /// How many moves the recipes of the entries come to.
     fn length(&self, entries: &Entries) -> u64
-        requires { (Placed self.now.order entries.now) × (length_of (flat_map (entry_numbers self.now) (take entries.now.count entries.now.list)) < 2 ^ 64) }
-        ensures { result ≡ length_of (flat_map (entry_numbers self.now) (take entries.now.count entries.now.list)) }
+        requires { (Placed self.now.order (items entries.now)) × (length_of (flat_map (entry_numbers self.now) (items entries.now)) < 2 ^ 64) }
+        ensures { result ≡ length_of (flat_map (entry_numbers self.now) (items entries.now)) }
     {
         let mut length: u64 = 0;
-        for entry in entries.list[0..entries.count as usize].iter() {
+        for entry in entries.as_slice().iter() {
             length += self.length_at(entry.place, entry.to);
         }
         length
@@ -139,7 +143,7 @@ impl Route {
         ensures { result ≡ nth (moves_of self.now) k }
     {
         let mut rest = k;
-        for entry in self.entries.list[0..self.entries.count as usize].iter() {
+        for entry in self.entries.as_slice().iter() {
             let length = self.recipes.length_at(entry.place, entry.to);
             if rest < length {
                 return self.recipes.move_at(entry.place, entry.to, rest);

@@ -14,7 +14,7 @@ use Rattle.rules.specs.Naming.{errand_of, names?}
 use Rattle.rules.specs.NormalForm.{route}
 use Rattle.rules.specs.Rules.{Setting}
 use Rattle.tasks.specs.Asks.{rule_of, rules_of, setting_of}
-use Rattle.planner.specs.declared.route.table.Route.{Route}
+use Rattle.planner.specs.declared.route.tabled.Route.{Route}
 use Rattle.planner.specs.Plans.{errand_task, refusal, Planned, LeadsThere}
 use Rattle.planner.specs.Routes.{moves_of}
 use Rattle.runs.specs.declared.Answer.{Answer}

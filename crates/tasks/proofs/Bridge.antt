@@ -1,7 +1,8 @@
 -- Books, starts and errands as they are kept speak of the book's own latches.
-use Rattle.std.proofs.Common.{◌≡◌, ℕ, zero, suc, ◌<◌, Bool, true, false, cond, ◌≢◌, List, [], ◌∷◌, map, length, get_or, take, sym, refl, ap, ◌∙◌, subst, inl, inr, arith}
+use Rattle.std.proofs.Common.{◌≡◌, ℕ, suc, ◌<◌, Bool, true, false, cond, ◌≢◌, List, [], ◌∷◌, map, length, get_or, take, length, sym, refl, ap, ◌∙◌, subst, inl, inr, arith}
 use mathlib.Core.Option.{none, some}
 use Rattle.std.proofs.lemmas.List.FromFn.{length-map-range_with_len, get_or-map-range_with_len}
+use Rattle.std.proofs.lemmas.List.{get_or-take, length-take}
 use Rattle.std.proofs.lemmas.Bool.{cases_Bool}
 use Rattle.words.specs.declared.LatchSet.{LatchSet}
 use Rattle.words.specs.Sets.{has, Below}
@@ -52,12 +53,17 @@ pub asks_below : (n : ℕ) (p : PartialSetting) → Below n p.named → (u : ℕ
 asks_below n p h u a = h u (asked_named p u a)
 
 -- an element of a list stands at a place
-pub place_of :
-    {X Y : Type 0} (f : X → Y) (d : X) (xs : List X) (n : ℕ) (y : Y) → In (map f (take n xs)) y → (k : ℕ) × ((k < n) × (f (get_or xs k d) ≡ y))
-place_of f d xs zero y h = absurd h
-place_of f d [] (suc n) y h = absurd h
-place_of f d (x ∷ xs) (suc n) y (inl e) = (0, (omega arith, e))
-place_of f d (x ∷ xs) (suc n) y (inr h) = let p = place_of f d xs n y h in (suc p.0, (omega (arith, p.1.0), p.1.1))
+pub place_of : {X Y : Type 0} (f : X → Y) (d : X) (xs : List X) (y : Y) → In (map f xs) y → (k : ℕ) × ((k < length xs) × (f (get_or xs k d) ≡ y))
+place_of f d [] y h = absurd h
+place_of f d (x ∷ xs) y (inl e) = (0, (omega arith, e))
+place_of f d (x ∷ xs) y (inr h) = let p = place_of f d xs y h in (suc p.0, (omega (arith, p.1.0), p.1.1))
+
+-- a rule of a book is that of the move at a place
+book_place : (b : Book) (m : Rule) → In (rules_of b).moves m → (k : ℕ) × ((k < b.count) × (rule_of (move_at b.moves k) ≡ m))
+book_place b m h =
+    let (k, (l, e)) = place_of rule_of no_move (take b.count b.moves) m h in
+    let inside : k < b.count = omega (arith, length-take b.count b.moves) in
+    (k, (inside, sym (ap rule_of (get_or-take b.count b.moves k no_move inside)) ∙ e))
 
 -- every book says things of its own latches only
 pub book_within : (b : Book) → RulesWithin (rules_of b)
@@ -65,12 +71,12 @@ book_within b = record { throws_within = throws; asks_within = asks }
   where
     throws : (m : Rule) → In (rules_of b).moves m → m.latch < b.latches
     throws m h =
-        let p = place_of rule_of no_move b.moves b.count m h in
+        let p = book_place b m h in
         subst (λ (x : Rule). x.latch < b.latches) p.1.1 (b.own p.0 p.1.0)
 
     asks : (m : Rule) → In (rules_of b).moves m → (u : ℕ) → m.asks u ≢ any → u < b.latches
     asks m h =
-        let p = place_of rule_of no_move b.moves b.count m h in
+        let p = book_place b m h in
         subst (λ (x : Rule). (u : ℕ) → x.asks u ≢ any → u < b.latches) p.1.1
         (asks_below b.latches (move_at b.moves p.0).when (b.asks p.0 p.1.0))
 

@@ -1,5 +1,5 @@
 -- What chains over the moves and over the latches of a task find, as the searches of the theory.
-use Rattle.std.proofs.Common.{◌≡◌, ℕ, zero, suc, ◌+◌, ◌<◌, Bool, true, false, ◌&&◌, ◌||◌, eqb, ltb, List, [], ◌∷◌, ◌++◌, map, take, length, MatchBool, add-one, sym, refl, ap, ◌∙◌, inl, inr, arith}
+use Rattle.std.proofs.Common.{◌≡◌, ℕ, zero, suc, ◌+◌, ◌<◌, Bool, true, false, ◌&&◌, ◌||◌, eqb, ltb, List, [], ◌∷◌, ◌++◌, map, length, MatchBool, add-one, sym, refl, ap, ◌∙◌, inl, inr, arith}
 use denote.Param.Members.{Mut}
 use denote.Ref.{Bor}
 use Rattle.std.specs.Fn.{Called, CalledAt}
@@ -20,6 +20,7 @@ use Rattle.std.proofs.lemmas.Iterator.Search.{all_from_yields_List}
 use Rattle.std.proofs.lemmas.List.{map_push}
 use Rattle.std.proofs.lemmas.List.FromFn.{map-range_with_len_more}
 use Rattle.std.proofs.lemmas.List.Folds.{list_all-append, list_all-map}
+use Rattle.table.specs.Items.{items}
 use Rattle.words.specs.declared.LatchSet.{LatchSet}
 use Rattle.words.specs.Sets.{most_latches, no_latch, has, Below}
 use Rattle.words.proofs.Members.{no_member}
@@ -87,20 +88,20 @@ latch_below t m i = omega (arith, (well_formed t).latch_within (move_of m) i, t.
 -- a chain over the moves of a task, whose closure answers by the test at each of them
 module _
     {F : Type 0} {g : Mut F (Bor NormalMove × Unit {0}) Bool} {s u : Iter NormalMove} {f : F} {r : Bool}
-    (t : NormalTask) (test : Move → Bool) (all : iter_rest s ≡ take t.count t.moves)
+    (t : NormalTask) (test : Move → Bool) (all : iter_rest s ≡ items t.moves)
     (calls :
     (x : Bor NormalMove) (b : Bool) (q : F) → Called g f (x, tt) b q → (q ≡ f) × (InTask t x.now → b ≡ test (move_of x.now))) where
   pub some_move : ChecksAny fronts g s f r u → r ≡ some_of test (moves_of t)
   some_move ran =
-      some_answer move_of (InTask t) test r (take t.count t.moves) (in_map move_of (take t.count t.moves))
+      some_answer move_of (InTask t) test r (items t.moves) (in_map move_of (items t.moves))
       (cases_from_any u f r (Tests move_of (InTask t) test true) (Tests move_of (InTask t) test false) ran
-      (YieldsList-from_slice (take t.count t.moves) all) (λ x q k. (calls x true q k).1) (λ x q k. calls x false q k))
+      (YieldsList-from_slice (items t.moves) all) (λ x q k. (calls x true q k).1) (λ x q k. calls x false q k))
 
   pub each_move : ChecksAll fronts g s f r u → r ≡ all_of test (moves_of t)
   each_move ran =
-      all_answer move_of (InTask t) test r (take t.count t.moves) (in_map move_of (take t.count t.moves))
+      all_answer move_of (InTask t) test r (items t.moves) (in_map move_of (items t.moves))
       (cases_from_all u f r (Tests move_of (InTask t) test true) (Tests move_of (InTask t) test false) ran
-      (YieldsList-from_slice (take t.count t.moves) all) (λ x q k. calls x true q k) (λ x q k. (calls x false q k).1))
+      (YieldsList-from_slice (items t.moves) all) (λ x q k. calls x true q k) (λ x q k. (calls x false q k).1))
 
 -- one more element at the end
 some_of_push : {A : Type 0} (test : A → Bool) (xs : List A) (x : A) → some_of test (xs ++ (x ∷ [])) ≡ (some_of test xs || test x)
@@ -128,14 +129,14 @@ module _
     (t : NormalTask) (passes : NormalMove → Bool) (adds : NormalMove → ℕ → Bool) (test : ℕ → Move → Bool)
     (says : (u : ℕ) (m : NormalMove) → InTask t m → (passes m && adds m u) ≡ test u (move_of m)) where
   pub gathered :
-      iter_rest (filter_source s) ≡ take t.count t.moves → filter_callee s ≡ f →
+      iter_rest (filter_source s) ≡ items t.moves → filter_callee s ≡ f →
       ((x : Bor NormalMove) (b : Bool) (q : F) → CalledAt h f x b q → (q ≡ f) × (b ≡ passes x.now)) →
       ((a : LatchSet) (x : Bor NormalMove) (b : LatchSet) (q : G) → Called g k (a, (x, tt)) b q → ((u : ℕ) → has b u ≡ (has a u || adds x.now u)) × (q ≡ k)) →
       FoldsItems (filter_steps fronts h) g s k no_latch r → (u : ℕ) → has r u ≡ some_of (test u) (moves_of t)
   gathered all by filters adds_all (xs, q, (v, (w, yields, stops)), folds) u =
       fold_same g (Gathered adds) k one_more xs no_latch r q no_member folds u
-      ∙ ap (some_of (λ m. adds m u)) (items_from_drains xs (w, yields, λ _. (v, stops)) (YieldsList-from_filter h passes (YieldsList-from_slice (take t.count t.moves) all) by filters))
-      ∙ some_of_filter move_of passes (λ m. adds m u) (test u) (take t.count t.moves) (λ m i. says u m (in_map move_of (take t.count t.moves) m i))
+      ∙ ap (some_of (λ m. adds m u)) (items_from_drains xs (w, yields, λ _. (v, stops)) (YieldsList-from_filter h passes (YieldsList-from_slice (items t.moves) all) by filters))
+      ∙ some_of_filter move_of passes (λ m. adds m u) (test u) (items t.moves) (λ m i. says u m (in_map move_of (items t.moves) m i))
     where
       one_more :
           (ys : List (Bor NormalMove)) (a : LatchSet) (x : Bor NormalMove) (b : LatchSet) (q : G) → Gathered adds ys a → Called g k (a, (x, tt)) b q →

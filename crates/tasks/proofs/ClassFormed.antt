@@ -1,6 +1,7 @@
 -- The task that a record stands for is well formed.
-use Rattle.std.proofs.Common.{◌≡◌, ℕ, ◌<◌, true, cond, ◌≢◌, sym, ap, ◌∙◌, subst}
+use Rattle.std.proofs.Common.{◌≡◌, ℕ, ◌<◌, true, cond, ◌≢◌, length, sym, ap, ◌∙◌, subst}
 use mathlib.Core.Option.{some, none}
+use Rattle.table.specs.Items.{items}
 use Rattle.words.specs.Sets.{has}
 use Rattle.book.specs.declared.partial.PartialSetting.{PartialSetting}
 use Rattle.theory.specs.Searches.{In}
@@ -24,20 +25,20 @@ well_formed t = record {
   asks_within = λ m i u n.
       let r = place m i in
       t.within r.0 r.1.0 u
-      (asked_named (move_at t.moves r.0).asks u (subst (λ (x : Move). x.asks u ≢ any) (sym r.1.1) n));
+      (asked_named (move_at (items t.moves) r.0).asks u (subst (λ (x : Move). x.asks u ≢ any) (sym r.1.1) n));
   asks_own = λ m i.
       let r = place m i in
       subst (λ (x : Move). x.asks x.latch ≡ ask_against x.to) r.1.1 (own r.0 r.1.0);
   want_within = λ u n. t.wanted u (asked_named t.want u n);
 }
   where
-    place : (m : Move) → In (moves_of t) m → (k : ℕ) × ((k < t.count) × (move_of (move_at t.moves k) ≡ m))
-    place m i = place_of move_of no_move t.moves t.count m i
+    place : (m : Move) → In (moves_of t) m → (k : ℕ) × ((k < length (items t.moves)) × (move_of (move_at (items t.moves) k) ≡ m))
+    place m i = place_of move_of no_move (items t.moves) m i
 
     own :
-        (k : ℕ) → k < t.count →
-        asks_of (move_at t.moves k).asks (move_at t.moves k).latch ≡ ask_against (move_at t.moves k).to
+        (k : ℕ) → k < length (items t.moves) →
+        asks_of (move_at (items t.moves) k).asks (move_at (items t.moves) k).latch ≡ ask_against (move_at (items t.moves) k).to
     own k l =
-        named_asked (move_at t.moves k).asks (move_at t.moves k).latch (t.asks_own k l)
+        named_asked (move_at (items t.moves) k).asks (move_at (items t.moves) k).latch (t.asks_own k l)
         ∙ ap ask_for (t.opposite k l)
-        ∙ for_opposite (move_at t.moves k).to
+        ∙ for_opposite (move_at (items t.moves) k).to

@@ -1,14 +1,13 @@
 -- The moves of a book brought to normal form one after another, and the task that they make.
-use Rattle.std.proofs.Common.{◌≡◌, ℕ, zero, suc, ◌+◌, ◌-◌, ◌<◌, ◌≤◌, Bool, true, false, cond, not, List, [], ◌∷◌, ◌++◌, map, length, get_or, take, set, sym, refl, ap, ◌∙◌, subst, inl, inr, arith}
+use Rattle.std.proofs.Common.{◌≡◌, ℕ, zero, suc, ◌+◌, ◌-◌, ◌<◌, ◌≤◌, Bool, true, false, cond, not, List, [], ◌∷◌, ◌++◌, map, length, get_or, take, sym, refl, ap, ◌∙◌, subst, inl, inr, arith}
 use mathlib.Core.Path.{fun_ext}
 use mathlib.Core.Option.{none, some}
-use Rattle.std.proofs.lemmas.List.{append-nil, length-set, length-map, length-take-le, get_or-take, get_or_read, take_more_set, map_push, map_more}
+use Rattle.std.proofs.lemmas.List.{append-nil, length-map, length-take-le, length_push, get_or-take, get_or_read, map_push, map_more}
 use Rattle.words.specs.declared.LatchSet.{LatchSet}
 use Rattle.words.specs.Sets.{most_latches, has, Below}
 use Rattle.book.specs.declared.book.Book.{Book}
 use Rattle.book.specs.declared.moves.Move.{Move as BookMove}
 use Rattle.book.specs.declared.partial.PartialSetting.{PartialSetting}
-use Rattle.book.specs.Limits.{most_moves}
 use Rattle.book.specs.Places.{move_at, no_move}
 use Rattle.theory.specs.Searches.{In}
 use Rattle.theory.specs.Tasks.{Task, Move, WellFormed, ask_against}
@@ -62,11 +61,10 @@ push_kept s xs x i l d =
 abbrev first_moves : Book → LatchSet → ℕ → List Move
 first_moves b start i = normal_moves (setting_of b.latches start) 0 (map rule_of (take i b.moves))
 
--- the first i moves of the book are brought to normal form, and fill the first places
-pub record Brought (b : Book) (start : LatchSet) (i count : ℕ) (moves : List NormalMove) : Type 0 where
-  pub places : length moves ≡ most_moves
-  pub fewer : count ≤ i
-  pub same : map move_of (take count moves) ≡ first_moves b start i
+-- the first i moves of the book are brought to normal form
+pub record Brought (b : Book) (start : LatchSet) (i : ℕ) (moves : List NormalMove) : Type 0 where
+  pub fewer : length moves ≤ i
+  pub same : map move_of moves ≡ first_moves b start i
 
 -- a move that is read among the moves of the book stands at a place there
 abbrev pub Read : Book → ℕ → BookMove → Type 0
@@ -102,7 +100,7 @@ abbrev InNormalForm : LatchSet → ℕ → BookMove → NormalMove → Type 0
 InNormalForm start number m x =
     (n : ℕ) → m.latch < n → Below n m.when.named → move_of x ≡ normal_move (setting_of n start) number (rule_of m)
 
-module _ (b : Book) (start : LatchSet) (i count : ℕ) (moves : List NormalMove) (so_far : Brought b start i count moves) where
+module _ (b : Book) (start : LatchSet) (i : ℕ) (moves : List NormalMove) (so_far : Brought b start i moves) where
   module _ (inside : i < b.count) where
     inside_places : i < length b.moves
     inside_places = omega (arith, b.room, b.move_places)
@@ -114,9 +112,8 @@ module _ (b : Book) (start : LatchSet) (i count : ℕ) (moves : List NormalMove)
     as_many : length (map rule_of (take i b.moves)) ≡ i
     as_many = length-map (take i b.moves) rule_of ∙ length-take-le i b.moves (omega (arith, inside_places))
 
-    one_dropped : dropped? (rule_of (move_at b.moves i)) ≡ true → Brought b start (i + 1) count moves
+    one_dropped : dropped? (rule_of (move_at b.moves i)) ≡ true → Brought b start (i + 1) moves
     one_dropped d = record {
-      places = so_far.places;
       fewer = omega (arith, so_far.fewer);
       same = so_far.same
           ∙ sym (push_dropped (setting_of b.latches start) (map rule_of (take i b.moves)) (rule_of (move_at b.moves i)) d)
@@ -125,12 +122,10 @@ module _ (b : Book) (start : LatchSet) (i count : ℕ) (moves : List NormalMove)
 
     one_kept :
         (x : NormalMove) → dropped? (rule_of (move_at b.moves i)) ≡ false →
-        move_of x ≡ normal_move (setting_of b.latches start) i (rule_of (move_at b.moves i)) → Brought b start (i + 1) (count + 1) (set moves count x)
+        move_of x ≡ normal_move (setting_of b.latches start) i (rule_of (move_at b.moves i)) → Brought b start (i + 1) (moves ++ (x ∷ []))
     one_kept x d e = record {
-      places = length-set moves count x ∙ so_far.places;
-      fewer = omega (arith, so_far.fewer);
-      same = ap (map move_of) (take_more_set moves count x (omega (arith, so_far.places, so_far.fewer, b.room)))
-          ∙ map_push move_of (take count moves) x
+      fewer = omega (arith, so_far.fewer, length_push moves x);
+      same = map_push move_of moves x
           ∙ ap (λ (ms : List Move). ms ++ (move_of x ∷ [])) so_far.same
           ∙ ap (λ (m : Move). first_moves b start i ++ (m ∷ [])) e
           ∙ sym (push_kept (setting_of b.latches start) (map rule_of (take i b.moves)) (rule_of (move_at b.moves i)) i as_many d)
@@ -138,21 +133,17 @@ module _ (b : Book) (start : LatchSet) (i count : ℕ) (moves : List NormalMove)
     }
 
   -- the next move, as it is read, is dropped or kept
-  module _ (m : BookMove) (read : Read b i m) (count' : ℕ) (moves' : List NormalMove) where
+  module _ (m : BookMove) (read : Read b i m) (moves' : List NormalMove) where
     at_place : (own : Bool) → dropped? (rule_of m) ≡ own → dropped? (rule_of (move_at b.moves i)) ≡ own
     at_place own d = ap (λ (x : BookMove). dropped? (rule_of x)) (sym read.1) ∙ d
 
-    pub turn_dropped : count' ≡ count → moves' ≡ moves → dropped? (rule_of m) ≡ true → Brought b start (i + 1) count' moves'
-    turn_dropped c e d =
-        subst (λ (k : ℕ). Brought b start (i + 1) k moves') (sym c)
-        (subst (λ (ms : List NormalMove). Brought b start (i + 1) count ms) (sym e) (one_dropped read.0 (at_place true d)))
+    pub turn_dropped : moves' ≡ moves → dropped? (rule_of m) ≡ true → Brought b start (i + 1) moves'
+    turn_dropped e d = subst (Brought b start (i + 1)) (sym e) (one_dropped read.0 (at_place true d))
 
     pub turn_kept :
-        (number : ℕ) (x : NormalMove) → count' ≡ count + 1 → moves' ≡ set moves count x → number ≡ i → dropped? (rule_of m) ≡ false →
-        InNormalForm start number m x → Brought b start (i + 1) count' moves'
-    turn_kept number x c e numbered d h =
-        subst (λ (k : ℕ). Brought b start (i + 1) k moves') (sym c)
-        (subst (λ (ms : List NormalMove). Brought b start (i + 1) (count + 1) ms) (sym e) (one_kept read.0 x (at_place false d) normal))
+        (number : ℕ) (x : NormalMove) → moves' ≡ moves ++ (x ∷ []) → number ≡ i → dropped? (rule_of m) ≡ false →
+        InNormalForm start number m x → Brought b start (i + 1) moves'
+    turn_kept number x e numbered d h = subst (Brought b start (i + 1)) (sym e) (one_kept read.0 x (at_place false d) normal)
       where
         normal : move_of x ≡ normal_move (setting_of b.latches start) i (rule_of (move_at b.moves i))
         normal =
@@ -160,18 +151,17 @@ module _ (b : Book) (start : LatchSet) (i count : ℕ) (moves : List NormalMove)
             ∙ ap (λ (j : ℕ). normal_move (setting_of b.latches start) j (rule_of (move_at b.moves i))) numbered
 
   -- behind the last, all moves of the book are brought to normal form
-  pub all_brought :
-      length (take (b.count - 0) b.moves) ≤ i → i ≤ length (take (b.count - 0) b.moves) → Brought b start b.count count moves
+  pub all_brought : length (take (b.count - 0) b.moves) ≤ i → i ≤ length (take (b.count - 0) b.moves) → Brought b start b.count moves
   all_brought l h =
       let end : i ≡ b.count = omega (arith, book_count b) in
-      subst (λ (k : ℕ). Brought b start k count moves) end so_far
+      subst (λ (k : ℕ). Brought b start k moves) end so_far
 
 -- all moves, and a want that is brought to normal form, are the task, which is well-formed
 module _
-    (b : Book) (start : LatchSet) (w v : PartialSetting) (count : ℕ) (moves : List NormalMove) (all : Brought b start b.count count moves)
+    (b : Book) (start : LatchSet) (w v : PartialSetting) (moves : List NormalMove) (all : Brought b start b.count moves)
     (below : Below b.latches w.named) (each : (u : ℕ) → asks_of v u ≡ exchanged_ask (asks_of w u) (has start u)) where
   abbrev brought : Task
-  brought = record { width = b.latches; moves = map move_of (take count moves); want = asks_of v }
+  brought = record { width = b.latches; moves = map move_of moves; want = asks_of v }
 
   wanted : asks_of v ≡ (λ (u : ℕ). exchanged_ask (asks_of w u) (at (setting_of b.latches start) u))
   wanted = fun_ext (λ u. each u ∙ exchanged_at b.latches start w below u)
@@ -185,11 +175,10 @@ module _
       (task_well_formed (rules_of b) (book_within b) (setting_of b.latches start) (asks_of w) (want_within b w below))
 
 -- the move at a place is one of the list
-place_in : {X Y : Type 0} (f : X → Y) (d : X) (xs : List X) (n k : ℕ) → k < n → n ≤ length xs → In (map f (take n xs)) (f (get_or xs k d))
-place_in f d xs zero k l h = absurd (omega arith)
-place_in f d [] (suc n) k l h = absurd (omega arith)
-place_in f d (x ∷ xs) (suc n) zero l h = inl refl
-place_in f d (x ∷ xs) (suc n) (suc k) l h = inr (place_in f d xs n k (omega arith) (omega arith))
+place_in : {X Y : Type 0} (f : X → Y) (d : X) (xs : List X) (k : ℕ) → k < length xs → In (map f xs) (f (get_or xs k d))
+place_in f d [] k l = absurd (omega arith)
+place_in f d (x ∷ xs) zero l = inl refl
+place_in f d (x ∷ xs) (suc k) l = inr (place_in f d xs k (omega arith))
 
 -- an ask against a position names the latch, at the opposite
 against_named : (x y t : Bool) → ask_from (cond x (some y) none) ≡ ask_against t → (x ≡ true) × (y ≡ not t)
@@ -202,19 +191,19 @@ against_named false y false e = let z : ◌≡◌ {A = ℕ} 0 1 = cc in absurd (
 
 -- what a well-formed task says of the move at each place, and of the want
 module _
-    (width count : ℕ) (moves : List NormalMove) (want : PartialSetting) (room : count ≤ length moves)
-    (well : WellFormed (record { width = width; moves = map move_of (take count moves); want = asks_of want })) where
-  stands_in : (k : ℕ) → k < count → In (map move_of (take count moves)) (move_of (places.move_at moves k))
-  stands_in k l = place_in move_of places.no_move moves count k l room
+    (width : ℕ) (moves : List NormalMove) (want : PartialSetting)
+    (well : WellFormed (record { width = width; moves = map move_of moves; want = asks_of want })) where
+  stands_in : (k : ℕ) → k < length moves → In (map move_of moves) (move_of (places.move_at moves k))
+  stands_in k l = place_in move_of places.no_move moves k l
 
-  pub place_own : (k : ℕ) → k < count → (places.move_at moves k).latch < width
+  pub place_own : (k : ℕ) → k < length moves → (places.move_at moves k).latch < width
   place_own k l = well.latch_within _ (stands_in k l)
 
-  pub place_within : (k : ℕ) → k < count → Below width (places.move_at moves k).asks.named
+  pub place_within : (k : ℕ) → k < length moves → Below width (places.move_at moves k).asks.named
   place_within k l j h = well.asks_within _ (stands_in k l) j (named_asked (places.move_at moves k).asks j h)
 
   pub place_asks_own :
-      (k : ℕ) → k < count →
+      (k : ℕ) → k < length moves →
       (has (places.move_at moves k).asks.named (places.move_at moves k).latch ≡ true)
       × (has (places.move_at moves k).asks.ones (places.move_at moves k).latch ≡ not (places.move_at moves k).to)
   place_asks_own k l = against_named _ _ (places.move_at moves k).to (well.asks_own _ (stands_in k l))

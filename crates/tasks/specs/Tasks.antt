@@ -2,7 +2,8 @@
 --   move_of m    the move that m stands for
 --   moves_of t   the moves of t
 --   task_of t    the task that t stands for
-use Rattle.std.specs.Prelude.{List, map, take}
+use Rattle.std.specs.Prelude.{List, map}
+use Rattle.table.specs.Items.{items}
 use Rattle.theory.specs.Tasks.{Move, Task}
 use Rattle.tasks.specs.declared.task.NormalMove.{NormalMove}
 use Rattle.tasks.specs.declared.task.NormalTask.{NormalTask}
@@ -14,7 +15,7 @@ move_of m = record { number = m.number; latch = m.latch; to = m.to; asks = asks_
 
 -- the moves of a task, by rising number
 abbrev pub moves_of : NormalTask → List Move
-moves_of t = map move_of (take t.count t.moves)
+moves_of t = map move_of (items t.moves)
 
 -- the task that a record stands for
 abbrev pub task_of : NormalTask → Task

@@ -8,8 +8,9 @@ ghost use Rattle.tasks.specs.Asks.{asks_of, rule_of, rules_of, setting_of};
 ghost use Rattle.tasks.specs.Tasks.{move_of, task_of};
 
 use crate::task::{NormalMove, NormalTask};
-use book::{Book, Errand, MOST_MOVES, Move, PartialSetting};
+use book::{Book, Errand, Move, PartialSetting};
 use rules::in_normal_form;
+use table::Table;
 use words::{LatchSet, MOST_LATCHES};
 
 /// An empty place for a move.
@@ -71,17 +72,14 @@ fn normal_task(book: &Book, start: LatchSet, want: PartialSetting) -> NormalTask
     requires { Below book.now.latches want.named }
     ensures { task_of result ≡ task (rules_of book.now) (setting_of book.now.latches start) (asks_of want) }
 {
-    let mut count: u8 = 0;
-    let mut moves = [NO_MOVE; MOST_MOVES];
+    let mut moves = Table::new(NO_MOVE);
     for (number, m) in book.moves[0..book.count as usize].iter().enumerate() {
         if let Some(normal) = normal_move(number as u8, m, start) {
-            moves[count as usize] = normal;
-            count += 1;
+            moves.push(normal);
         }
     }
     NormalTask {
         width: book.latches,
-        count,
         moves,
         want: normal_asks(want, start),
     }
@@ -94,8 +92,7 @@ impl NormalTask {
     {
         NormalTask {
             width: 0,
-            count: 0,
-            moves: [NO_MOVE; MOST_MOVES],
+            moves: Table::new(NO_MOVE),
             want: PartialSetting::EMPTY,
         }
     }

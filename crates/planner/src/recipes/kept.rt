@@ -5,7 +5,7 @@ ghost use Rattle.planner.specs.RecipesKept.{Splits};
 ghost use Rattle.planner.specs.Made.{Orders, Members, Counts, Within, Helpers, Opens};
 
 use crate::order::Order;
-use crate::recipes::table::RecipeTable;
+use crate::recipes::recipe_table::RecipeTable;
 use tasks::NormalTask;
 use words::LatchSet;
 

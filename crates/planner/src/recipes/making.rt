@@ -4,11 +4,12 @@ ghost use Rattle.theory.specs.Recipes.{recipe_parts, opened};
 ghost use Rattle.theory.specs.Tasks.{Move};
 ghost use Rattle.tasks.specs.Tasks.{task_of};
 ghost use Rattle.planner.specs.Made.{Orders};
+ghost use Rattle.planner.specs.Orders.{order_of};
 ghost use Rattle.planner.specs.RecipesKept.{Splits, Helps, Chosen, Tabled, before, kept_behind};
 
 use crate::order::Order;
 use crate::recipes::recipe::Recipe;
-use crate::recipes::table::{Kept, RecipeTable};
+use crate::recipes::recipe_table::{Kept, RecipeTable};
 use crate::recipes::{helpers, serves};
 use book::MOST_LATCHES;
 use tasks::{NormalTask, is_asked};
@@ -24,8 +25,8 @@ pub(crate) struct Making<'a> {
     pub(crate) table: RecipeTable,
     ghost orders: { Orders task.now order.now },
     ghost splits: { Splits (task_of task.now) splitting },
-    ghost room: { placed ≤ order.now.count },
-    ghost tabled: { ∥ Tabled task.now order.now.latches placed (kept_behind task.now order.now placed) table ∥₁ },
+    ghost room: { placed ≤ length_of (order_of order.now) },
+    ghost tabled: { ∥ Tabled task.now (order_of order.now) placed (kept_behind task.now order.now placed) table ∥₁ },
 }
 
 impl<'a> Making<'a> {
@@ -52,10 +53,10 @@ impl<'a> Making<'a> {
         ensures short { result ≤ 3 ^ self.now.placed }
         ensures counted { (v : ℕ) (m : Move) → Helps (task_of self.now.task.now) v m helpers
             → result ≡ length_of (opened (kept_behind self.now.task.now self.now.order.now self.now.placed)
-            (recipe_parts (task_of self.now.task.now) v m (before self.now.order.now.latches self.now.placed))) }
+            (recipe_parts (task_of self.now.task.now) v m (before (order_of self.now.order.now) self.now.placed))) }
     {
         let mut length: u64 = 1;
-        for latch in self.order.latches[..self.placed as usize].iter() {
+        for latch in self.order.latches.as_slice()[..self.placed as usize].iter() {
             if helpers.contains(*latch) {
                 length += self.table.length(*latch, true) + self.table.length(*latch, false);
             }
@@ -66,7 +67,7 @@ impl<'a> Making<'a> {
     /// The recipe of `latch` to `to` by the first move that serves, behind the latches placed.
     fn recipe(&self, latch: u8, to: bool) -> Option<Recipe>
         ensures { Chosen self.now.task.now (kept_behind self.now.task.now self.now.order.now self.now.placed) latch
-            (before self.now.order.now.latches self.now.placed) to (3 ^ self.now.placed) result }
+            (before (order_of self.now.order.now) self.now.placed) to (3 ^ self.now.placed) result }
     {
         let ones = self.table.kept_to(true);
         for (place, m) in self.task.moves().iter().enumerate() {
@@ -85,12 +86,12 @@ impl<'a> Making<'a> {
 
     /// Places the next latch of the order.
     fn place(&mut self)
-        requires { self.old.placed < self.old.order.now.count }
+        requires { self.old.placed < length_of (order_of self.old.order.now) }
         ensures placed { self.new.placed ≡ self.old.placed + 1 }
         ensures task { self.new.task.now ≡ self.old.task.now }
         ensures order { self.new.order.now ≡ self.old.order.now }
     {
-        let latch = self.order.latches[self.placed as usize];
+        let latch = self.order.latch(self.placed);
         let one = self.recipe(latch, true);
         let zero = self.recipe(latch, false);
         let mut table = self.table;
@@ -101,11 +102,11 @@ impl<'a> Making<'a> {
 
     /// Places all latches of the order.
     pub(crate) fn place_all(&mut self)
-        ensures placed { self.new.placed ≡ self.old.order.now.count }
+        ensures placed { self.new.placed ≡ length_of (order_of self.old.order.now) }
         ensures task { self.new.task.now ≡ self.old.task.now }
         ensures order { self.new.order.now ≡ self.old.order.now }
     {
-        while self.placed < self.order.count {
+        while self.placed < self.order.len() {
             self.place();
         }
     }

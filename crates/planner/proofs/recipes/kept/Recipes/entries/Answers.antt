@@ -1,13 +1,13 @@
-use Rattle.std.proofs.Common.{refl, arith}
+use Rattle.std.proofs.Common.{length, ap, arith}
 use Rattle.words.specs.Sets.{has}
 use Rattle.planner.proofs.Listing.{all_fit, all_laid}
 use Rattle.planner.proofs.recipes.kept.Recipes.entries.Goals as goal
 
 pub extend-requires : goal.extend-requires
-extend-requires c = (omega arith, omega (arith, all_fit c.args.self.now (has c.from.result)))
+extend-requires c = (omega arith, omega (arith, all_fit c.args.self.now (has c.from.result), ap length c.new-entries.ensures))
 
 pub returns : goal.returns
 returns c = record {
-  placed = c.extend.ensures.placed (λ k l. absurd (omega arith));
-  parts = all_laid c.args.self.now c.from.result _ _ c.from.ensures refl c.extend.ensures;
+  placed = c.extend.ensures.placed (λ k l. absurd (omega (arith, ap length c.new-entries.ensures)));
+  parts = all_laid c.args.self.now c.from.result _ _ c.from.ensures c.new-entries.ensures c.extend.ensures;
 }

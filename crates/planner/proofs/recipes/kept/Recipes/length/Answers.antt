@@ -1,36 +1,41 @@
-use Rattle.std.proofs.Common.{◌+◌, refl, arith}
+use Rattle.std.proofs.Common.{List, length, sym, ap, ◌∙◌, subst, arith}
+use Rattle.std.proofs.lemmas.List.{take_all}
+use Rattle.std.specs.List.{flat_map}
+use Rattle.planner.specs.declared.route.entry.Entry.{Entry}
+use Rattle.planner.specs.Laid.{Placed}
 use Rattle.planner.specs.Listed.{entry_numbers}
-use Rattle.planner.proofs.Listing.{read_before, more_moves, fewer_moves, read_entry, entries_room, entry_placed}
+use Rattle.planner.proofs.Listing.{more_moves, fewer_moves}
 use Rattle.planner.proofs.recipes.kept.Recipes.length.Goals as goal
 
 pub length_at-length-requires : goal.length_at-length-requires
-length_at-length-requires c = entry_placed c.args.entries.now c.args.self.now.order.count c.loop-entry.entry-index c.requires.0 c.loop-entry-test.true
+length_at-length-requires c =
+    subst (Placed c.args.self.now.order) (sym c.as_slice-entry-items.ensures.items) c.requires.0 c.loop-entry.entry-index c.loop-entry-test.true
 
 pub overflow_add-length : goal.overflow_add-length
 overflow_add-length c =
-    let es = c.args.entries.now in
-    let s = c.args.self.now in
-    let i = c.loop-entry.entry-index in
-    let e = read_entry es i in
-    let before = read_before es.list es.count (entries_room es) i e (c.loop-entry-test.true, refl) in
+    let f = entry_numbers c.args.self.now in
     omega (
       arith,
       c.requires.1,
       c.loop-entry.invariant,
       c.length_at-length.ensures,
-      more_moves es.list es.count (entries_room es) (entry_numbers s) i e (c.loop-entry-test.true, refl),
-      fewer_moves es.list es.count (entries_room es) (entry_numbers s) (i + 1) (omega arith),
+      fewer_moves f c.as_slice-entry-items.result.now c.loop-entry.entry-index c.loop-entry-test.true,
+      more_moves f c.as_slice-entry-items.result.now c.loop-entry.entry-index c.loop-entry-test.true,
+      ap (λ (es : List Entry). length (flat_map f es)) c.as_slice-entry-items.ensures.items,
     )
 
 pub loop-entry-preserved : goal.loop-entry-preserved
 loop-entry-preserved c =
-    let es = c.args.entries.now in
-    let s = c.args.self.now in
-    let i = c.loop-entry.entry-index in
-    let e = read_entry es i in
     omega (
       arith,
       c.loop-entry.invariant,
       c.length_at-length.ensures,
-      more_moves es.list es.count (entries_room es) (entry_numbers s) i e (c.loop-entry-test.true, refl),
+      more_moves (entry_numbers c.args.self.now) c.as_slice-entry-items.result.now c.loop-entry.entry-index c.loop-entry-test.true,
     )
+
+pub returns : goal.returns
+returns c =
+    let f = entry_numbers c.args.self.now in
+    c.loop-entry.invariant
+    ∙ ap (λ (es : List Entry). length (flat_map f es))
+    (take_all c.loop-entry.entry-index c.as_slice-entry-items.result.now c.loop-entry-test.false ∙ c.as_slice-entry-items.ensures.items)

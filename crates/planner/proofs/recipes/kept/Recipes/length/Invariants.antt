@@ -5,4 +5,4 @@ use Rattle.planner.proofs.recipes.kept.Recipes.length.Given as goal
 
 -- the moves of the entries so far
 abbrev pub invariant-loop-entry : goal.invariant-loop-entry
-invariant-loop-entry l = l.length ≡ length (flat_map (entry_numbers l.self) (take l.entry-index l.entries.list))
+invariant-loop-entry l = l.length ≡ length (flat_map (entry_numbers l.self) (take l.entry-index l.entry-items))

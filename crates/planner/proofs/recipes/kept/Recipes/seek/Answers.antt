@@ -22,7 +22,7 @@ returns-then-rest-length c =
       same = λ ys.
           c.loop-turn.invariant ys
           ∙ turn_inside s.task x c.args.helpers vs k below ys c.loop-turn.rest
-          (subst (λ (v : ℕ). has c.args.helpers v ≡ true) same (sym c.if-contains.ensures))
+          (subst (λ (v : ℕ). has c.args.helpers v ≡ true) same (sym (c.if-contains.ensures ∙ ap (has c.args.helpers) c.latch.ensures)))
           (subst (λ (v : ℕ). c.loop-turn.rest < length (recipe_numbers s.task x v)) same inside)
           ∙ ap (λ (v : ℕ). nth (recipe_numbers s.task x v) c.loop-turn.rest) (sym same);
     }
@@ -40,12 +40,12 @@ loop-turn-preserved c =
       | then-contains+else-rest-length w ↦ λ ys.
           c.loop-turn.invariant ys
           ∙ turn_behind s.task x c.args.helpers vs k below ys c.loop-turn.rest w.length_at-length.result c.if-contains.rest
-          (subst (λ (v : ℕ). has c.args.helpers v ≡ true) same (sym w.if-contains.ensures))
+          (subst (λ (v : ℕ). has c.args.helpers v ≡ true) same (sym (w.if-contains.ensures ∙ ap (has c.args.helpers) c.latch.ensures)))
           (subst (λ (v : ℕ). w.length_at-length.result ≡ length (recipe_numbers s.task x v)) same w.length_at-length.ensures) w.if-rest-length.false w.rest-is
       | else-contains w ↦ λ ys.
           c.loop-turn.invariant ys
           ∙ turn_over s.task x c.args.helpers vs k below ys c.loop-turn.rest
-          (subst (λ (v : ℕ). has c.args.helpers v ≡ false) same (sym w.if-contains.ensures))
+          (subst (λ (v : ℕ). has c.args.helpers v ≡ false) same (sym (w.if-contains.ensures ∙ ap (has c.args.helpers) c.latch.ensures)))
           ∙ ap (nth _) (sym w.rest-is)
     ]
 

@@ -1,13 +1,16 @@
-use Rattle.std.proofs.Common.{◌≡◌, ℕ, ◌+◌, ◌*◌, ◌^◌, ◌<◌, ◌≤◌, true, false, length, sym, subst, arith}
+use Rattle.std.proofs.Common.{◌≡◌, ℕ, ◌+◌, ◌*◌, ◌^◌, ◌<◌, ◌≤◌, List, true, false, length, take, sym, ap, ◌∙◌, subst, arith}
+use Rattle.std.proofs.lemmas.List.{length-take-le}
+use Rattle.planner.proofs.OrderFresh.{few}
 use Rattle.planner.proofs.RecipeLengths.{Counted, counted_alone, counted_unhelped, counted_helped, short_at, three_times, powers_fit}
 use Rattle.planner.proofs.Underway.{lengths_of, short_of}
+use Rattle.planner.specs.Orders.{order_of}
 use Rattle.planner.proofs.recipes.making.Making.length.Goals as goal
 use Rattle.planner.proofs.recipes.making.Making.length.Goals.{then-contains, else-contains, After-length-then-contains}
 
 pub loop-latch-init : goal.loop-latch-init
 loop-latch-init c =
     let s = c.args.self.now in
-    (omega arith, counted_alone s.order.now.latches s.table c.args.helpers)
+    (omega arith, counted_alone (order_of s.order.now) s.table c.args.helpers)
 
 -- the two recipes of the latch of this turn are short
 two_short : (c : After-length-then-contains) → (c.length.result + c.length-then-contains.result ≤ 2 * 3 ^ c.loop-latch.latch-index) × (3 * 3 ^ c.loop-latch.latch-index < 2 ^ 64)
@@ -15,10 +18,11 @@ two_short c =
     let s = c.args.self.now in
     let o = s.order.now in
     let i = c.loop-latch.latch-index in
-    let l : i < s.placed = omega (arith, c.loop-latch-test.true) in
-    let room : s.placed ≤ length o.latches = omega (arith, s.room, o.room, o.places) in
-    let short = short_at o.latches s.table c.args.helpers s.placed i l room (short_of s.task.now o s.placed s.table s.tabled) in
-    (omega (arith, c.length.ensures, c.length-then-contains.ensures, short true, short false), powers_fit i (omega (arith, s.room, o.room)))
+    let first = ap (take s.placed) c.as_slice.ensures.items in
+    let many : length (take s.placed c.as_slice.result.now) ≡ s.placed = ap (λ (us : List ℕ). length us) first ∙ length-take-le s.placed (order_of o) s.room in
+    let l : i < s.placed = omega (arith, c.loop-latch-test.true, many) in
+    let short = short_at (order_of o) s.table c.args.helpers s.placed i l s.room _ first (short_of s.task.now o s.placed s.table s.tabled) in
+    (omega (arith, c.length.ensures, c.length-then-contains.ensures, short true, short false), powers_fit i (omega (arith, s.room, few o)))
 
 pub overflow_add-length : goal.overflow_add-length
 overflow_add-length c = omega (arith, two_short c)
@@ -31,20 +35,21 @@ loop-latch-preserved c =
     let s = c.args.self.now in
     let o = s.order.now in
     let i = c.loop-latch.latch-index in
-    let l : i < s.placed = omega (arith, c.loop-latch-test.true) in
-    let room : s.placed ≤ length o.latches = omega (arith, s.room, o.room, o.places) in
-    let short = short_at o.latches s.table c.args.helpers s.placed i l room (short_of s.task.now o s.placed s.table s.tabled) in
+    let first = ap (take s.placed) c.as_slice.ensures.items in
+    let many : length (take s.placed c.as_slice.result.now) ≡ s.placed = ap (λ (us : List ℕ). length us) first ∙ length-take-le s.placed (order_of o) s.room in
+    let l : i < s.placed = omega (arith, c.loop-latch-test.true, many) in
+    let short = short_at (order_of o) s.table c.args.helpers s.placed i l s.room _ first (short_of s.task.now o s.placed s.table s.tabled) in
     elim c.if-contains.branch [
       | then-contains w ↦ (
         omega (arith, w.length-is, c.loop-latch.invariant.0, w.length.ensures, w.length-then-contains.ensures, short true, short false, three_times i),
-        subst (Counted o.latches s.table c.args.helpers (i + 1)) (sym w.length-is)
-            (counted_helped o.latches s.table c.args.helpers s.placed i l room c.loop-latch.length w.length.result w.length-then-contains.result
+        subst (Counted (order_of o) s.table c.args.helpers (i + 1)) (sym w.length-is)
+            (counted_helped (order_of o) s.table c.args.helpers s.placed i l s.room _ first c.loop-latch.length w.length.result w.length-then-contains.result
             (sym w.if-contains.ensures) w.length.ensures w.length-then-contains.ensures c.loop-latch.invariant.1),
       )
       | else-contains w ↦ (
         omega (arith, w.length-is, c.loop-latch.invariant.0, three_times i),
-        subst (Counted o.latches s.table c.args.helpers (i + 1)) (sym w.length-is)
-            (counted_unhelped o.latches s.table c.args.helpers s.placed i l room c.loop-latch.length (sym w.if-contains.ensures) c.loop-latch.invariant.1),
+        subst (Counted (order_of o) s.table c.args.helpers (i + 1)) (sym w.length-is)
+            (counted_unhelped (order_of o) s.table c.args.helpers s.placed i l s.room _ first c.loop-latch.length (sym w.if-contains.ensures) c.loop-latch.invariant.1),
       )
     ]
 
@@ -52,10 +57,12 @@ pub returns : goal.returns
 returns c =
     let s = c.args.self.now in
     let o = s.order.now in
-    let all : c.loop-latch.latch-index ≡ s.placed = omega (arith, c.loop-latch-test.false) in
+    let first = ap (take s.placed) c.as_slice.ensures.items in
+    let many : length (take s.placed c.as_slice.result.now) ≡ s.placed = ap (λ (us : List ℕ). length us) first ∙ length-take-le s.placed (order_of o) s.room in
+    let all : c.loop-latch.latch-index ≡ s.placed = omega (arith, c.loop-latch-test.false, many) in
     record {
       short = subst (λ (i : ℕ). c.loop-latch.length ≤ 3 ^ i) all c.loop-latch.invariant.0;
       counted = λ v m helps.
-          subst (λ (i : ℕ). Counted o.latches s.table c.args.helpers i c.loop-latch.length) all c.loop-latch.invariant.1 _ v m _ helps
+          subst (λ (i : ℕ). Counted (order_of o) s.table c.args.helpers i c.loop-latch.length) all c.loop-latch.invariant.1 _ v m _ helps
           (lengths_of s.task.now o s.placed s.table s.tabled);
     }

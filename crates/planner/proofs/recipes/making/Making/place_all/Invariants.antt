@@ -1,4 +1,5 @@
-use Rattle.std.proofs.Common.{◌≡◌, ◌-◌}
+use Rattle.std.proofs.Common.{◌≡◌, ◌-◌, length}
+use Rattle.planner.specs.Orders.{order_of}
 use Rattle.planner.proofs.recipes.making.Making.place_all.Given as goal
 
 -- the task and the order stay
@@ -7,4 +8,4 @@ invariant-loop-self l = (l.self.task.now ≡ l.fn.self.task.now) × (l.self.orde
 
 -- fewer latches are left
 abbrev pub decreases-loop-self : goal.decreases-loop-self
-decreases-loop-self l = l.self.order.now.count - l.self.placed
+decreases-loop-self l = length (order_of l.self.order.now) - l.self.placed

@@ -1,6 +1,8 @@
 //! The table of a route.
 ghost use Rattle.std.specs.Prelude.{◌≡◌, length as length_of};
-ghost use Rattle.planner.specs.Listed.{PlacedIn, Listed, route_numbers};
+ghost use Rattle.table.specs.Items.{items};
+ghost use Rattle.planner.specs.Laid.{Placed};
+ghost use Rattle.planner.specs.Listed.{Listed, route_numbers};
 
 use crate::recipes::Recipes;
 use crate::route::entries::Entries;
@@ -11,7 +13,7 @@ pub struct Route {
     pub(crate) recipes: Recipes,
     pub(crate) entries: Entries,
     pub(crate) length: u64,
-    ghost placed: { PlacedIn recipes.order entries.count entries.list },
-    ghost listed: { Listed recipes entries.count entries.list },
+    ghost placed: { Placed recipes.order (items entries) },
+    ghost listed: { Listed recipes (items entries) },
     ghost counted: { length ≡ length_of (route_numbers recipes.task) },
 }

@@ -1,10 +1,10 @@
 use Rattle.std.proofs.Common.{rules, is_some, sym, ap, ◌∙◌, inl, inr, arith}
 use Rattle.std.proofs.lemmas.Bool.{cases_lt}
 use Rattle.std.proofs.lemmas.List.{get_or_past}
-use Rattle.planner.specs.declared.recipes.table.Kept.{Kept as KeptRecipes}
-use Rattle.planner.specs.declared.recipes.table.Kept.TheVariants.{Neither}
+use Rattle.planner.specs.declared.recipes.recipe_table.Kept.{Kept as KeptRecipes}
+use Rattle.planner.specs.declared.recipes.recipe_table.Kept.TheVariants.{Neither}
 use Rattle.planner.specs.RecipesKept.{recipe_in}
-use Rattle.planner.proofs.recipes.table.RecipeTable.kept_to.Goals as goal
+use Rattle.planner.proofs.recipes.recipe_table.RecipeTable.kept_to.Goals as goal
 
 pub returns : goal.returns
 returns c u =

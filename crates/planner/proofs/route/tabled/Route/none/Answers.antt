@@ -8,7 +8,7 @@ use Rattle.tasks.specs.declared.task.NormalTask.{NormalTask}
 use Rattle.tasks.specs.Asks.{asks_of}
 use Rattle.tasks.specs.Tasks.{task_of}
 use Rattle.planner.specs.Made.{numbers}
-use Rattle.planner.proofs.route.table.Route.none.Goals as goal
+use Rattle.planner.proofs.route.tabled.Route.none.Goals as goal
 
 -- the task of a book with no latch
 abbrev blank : Task

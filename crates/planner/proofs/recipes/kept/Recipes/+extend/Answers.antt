@@ -1,4 +1,4 @@
-use Rattle.std.proofs.Common.{◌≡◌, ℕ, ◌+◌, ◌<◌, ◌≤◌, Bool, true, false, not, ◌&&◌, is_some, sym, ap, ◌∙◌, arith}
+use Rattle.std.proofs.Common.{◌≡◌, ℕ, ◌+◌, ◌<◌, ◌≤◌, Bool, true, false, not, ◌&&◌, is_some, sym, ap, ◌∙◌, subst, arith, length}
 use Rattle.words.specs.declared.LatchSet.{LatchSet}
 use Rattle.words.specs.Sets.{has}
 use Rattle.theory.specs.Tasks.{asks?}
@@ -6,40 +6,42 @@ use Rattle.theory.specs.Class.{side?, splitting?}
 use Rattle.tasks.specs.Asks.{asks_of}
 use Rattle.tasks.specs.Tasks.{task_of}
 use Rattle.planner.specs.declared.recipes.kept.Recipes.{Recipes}
+use Rattle.table.specs.Items.{items}
 use Rattle.planner.specs.Laid.{rest, size}
 use Rattle.planner.specs.Made.{latch_at}
 use Rattle.planner.specs.RecipesKept.{kept_in?}
 use Rattle.planner.proofs.Extending.{extends_empty, extends_end, extends_out, extends_plain, extends_split, size_next, size_others, size_sides}
 use Rattle.planner.proofs.Rests.{latch_within}
-use Rattle.planner.proofs.route.entries.Entries.+extend.Goals as goal
-use Rattle.planner.proofs.route.entries.Entries.+extend.Goals.{then-is_empty-via-then-is_empty, then-is_empty-via-else-is_empty+then-from-recipes, then-kept, else-kept, After-difference-2}
+use Rattle.planner.specs.Orders.{order_of}
+use Rattle.planner.proofs.recipes.kept.Recipes.+extend.Goals as goal
+use Rattle.planner.proofs.recipes.kept.Recipes.+extend.Goals.{then-is_empty-via-then-is_empty, then-is_empty-via-else-is_empty+then-from-len, then-kept, else-kept, After-difference-2}
 
 pub returns-then-is_empty : goal.returns-then-is_empty
 returns-then-is_empty t c =
     elim c.then-is_empty.branch [
-      | then-is_empty-via-then-is_empty w ↦ extends_empty c.args.recipes.now c.args.set c.args.from c.args.self.now (c.is_empty.ensures.0 w.if-is_empty.true)
-      | then-is_empty-via-else-is_empty+then-from-recipes w ↦ extends_end c.args.recipes.now c.args.set c.args.from c.args.self.now w.if-from-recipes.true
+      | then-is_empty-via-then-is_empty w ↦ extends_empty c.args.self.now c.args.set c.args.from (items c.args.entries.now) (c.is_empty.ensures.0 w.if-is_empty.true)
+      | then-is_empty-via-else-is_empty+then-from-len w ↦ extends_end c.args.self.now c.args.set c.args.from (items c.args.entries.now) (omega (arith, w.if-from-len.true, w.len.ensures))
     ]
 
 pub extend-requires : goal.extend-requires
 extend-requires t c =
-    let more = size_next c.args.recipes.now c.args.set c.args.from c.if-from-recipes.false in
-    (omega (arith, c.decreases, c.if-from-recipes.false), (omega (arith, c.if-from-recipes.false), omega (arith, c.requires.1)))
+    let more = size_next c.args.self.now c.args.set c.args.from (omega (arith, c.if-from-len.false, c.len.ensures)) c.latch-latch.result c.latch-latch.ensures in
+    (omega (arith, c.decreases, c.if-from-len.false, c.len.ensures), (omega (arith, c.if-from-len.false, c.len.ensures), omega (arith, c.requires.1)))
 
 pub returns-then-not-contains : goal.returns-then-not-contains
 returns-then-not-contains t c =
-    extends_out c.args.recipes.now c.args.set c.args.from c.if-from-recipes.false c.args.self.now _ (sym c.if-not-contains.ensures) c.extend.ensures
+    extends_out c.args.self.now c.args.set c.args.from (omega (arith, c.if-from-len.false, c.len.ensures)) c.latch-latch.result c.latch-latch.ensures (items c.args.entries.now) _ (sym c.if-not-contains.ensures) c.extend.ensures
 
 -- whether the latch at a place is splitting
-splits : (s : Recipes) (i : ℕ) → i < s.order.count → (b : Bool) → b ≡ has s.splitting (latch_at s.order i) → splitting? (task_of s.task) (latch_at s.order i) ≡ b
-splits s i l b e = sym (e ∙ s.splits (latch_at s.order i) (latch_within s.order s.task s.orders i l))
+splits : (s : Recipes) (i : ℕ) → i < length (order_of s.order) → (v : ℕ) → v ≡ latch_at s.order i → (b : Bool) → b ≡ has s.splitting v → splitting? (task_of s.task) v ≡ b
+splits s i l v at b e = sym (e ∙ s.splits v (subst (λ (w : ℕ). w < s.task.width) (sym at) (latch_within s.order s.task s.orders i l)))
 
 pub extend-requires-then-not-contains-2 : goal.extend-requires-then-not-contains-2
 extend-requires-then-not-contains-2 t c =
     let more =
-    size_others c.args.recipes.now c.args.set c.args.from c.if-from-recipes.false (sym c.if-not-contains.ensures) c.without-others.result
+    size_others c.args.self.now c.args.set c.args.from (omega (arith, c.if-from-len.false, c.len.ensures)) c.latch-latch.result c.latch-latch.ensures (sym c.if-not-contains.ensures) c.without-others.result
     c.without-others.ensures in
-    (omega (arith, c.decreases, c.if-from-recipes.false), (omega (arith, c.if-from-recipes.false), omega (arith, c.requires.1)))
+    (omega (arith, c.decreases, c.if-from-len.false, c.len.ensures), (omega (arith, c.if-from-len.false, c.len.ensures), omega (arith, c.requires.1)))
 
 pub push_if-requires : goal.push_if-requires
 push_if-requires t c =
@@ -47,15 +49,15 @@ push_if-requires t c =
       arith,
       c.requires.1,
       c.extend-then-not-contains-2.ensures.room,
-      size_others c.args.recipes.now c.args.set c.args.from c.if-from-recipes.false (sym c.if-not-contains.ensures)
+      size_others c.args.self.now c.args.set c.args.from (omega (arith, c.if-from-len.false, c.len.ensures)) c.latch-latch.result c.latch-latch.ensures (sym c.if-not-contains.ensures)
           c.without-others.result c.without-others.ensures,
     )
 
 pub returns-then-not-contains-2 : goal.returns-then-not-contains-2
 returns-then-not-contains-2 t c =
-    let s = c.args.recipes.now in
-    extends_plain s c.args.set c.args.from c.if-from-recipes.false (sym c.if-not-contains.ensures) c.without-others.result
-    c.without-others.ensures c.args.self.now _ _ _ (splits s c.args.from c.if-from-recipes.false false c.if-not-contains-2.ensures)
+    let s = c.args.self.now in
+    extends_plain s c.args.set c.args.from (omega (arith, c.if-from-len.false, c.len.ensures)) c.latch-latch.result c.latch-latch.ensures (sym c.if-not-contains.ensures) c.without-others.result
+    c.without-others.ensures (items c.args.entries.now) _ _ _ (splits s c.args.from (omega (arith, c.if-from-len.false, c.len.ensures)) c.latch-latch.result c.latch-latch.ensures false c.if-not-contains-2.ensures)
     c.is_asked.ensures c.extend-then-not-contains-2.ensures c.push_if.ensures
 
 -- the others on a side
@@ -76,16 +78,16 @@ Sizes s set others neither zero one i =
     ≤ size (has others) (rest s.order (i + 1)))
 
 sizes : (t : ℕ) (c : After-difference-2 t) →
-    Sizes c.args.recipes.now c.args.set c.without-others.result c.difference-2.result c.both-zero.result c.both-one.result c.args.from
+    Sizes c.args.self.now c.args.set c.without-others.result c.difference-2.result c.both-zero.result c.both-one.result c.args.from
 sizes t c =
-    let s = c.args.recipes.now in
-    let l = c.if-from-recipes.false in
+    let s = c.args.self.now in
+    let l : c.args.from < length (order_of c.args.self.now.order) = omega (arith, c.if-from-len.false, c.len.ensures) in
     let inside = sym c.if-not-contains.ensures in
     let others = c.without-others.result in
-    let v = latch_at s.order c.args.from in (
-      size_others s c.args.set c.args.from l inside others c.without-others.ensures,
-      size_sides s c.args.set c.args.from l inside others c.without-others.ensures c.both-zero.result c.both-one.result c.difference-2.result
-          (splits s c.args.from l true c.if-not-contains-2.ensures)
+    let v = c.latch-latch.result in (
+      size_others s c.args.set c.args.from l c.latch-latch.result c.latch-latch.ensures inside others c.without-others.ensures,
+      size_sides s c.args.set c.args.from l c.latch-latch.result c.latch-latch.ensures inside others c.without-others.ensures c.both-zero.result c.both-one.result c.difference-2.result
+          (splits s c.args.from l c.latch-latch.result c.latch-latch.ensures true c.if-not-contains-2.ensures)
           (on s false v others c.side.result c.both-zero.result c.both-zero.ensures c.side.ensures)
           (on s true v others c.side-2.result c.both-one.result c.both-one.ensures c.side-2.ensures)
           (off others c.both-zero.result c.both-one.result c.difference.result c.difference-2.result c.difference.ensures c.difference-2.ensures),
@@ -94,13 +96,13 @@ sizes t c =
 pub extend-requires-2 : goal.extend-requires-2
 extend-requires-2 t c =
     let z = sizes t c in
-    let l = c.if-from-recipes.false in
+    let l : c.args.from < length (order_of c.args.self.now.order) = omega (arith, c.if-from-len.false, c.len.ensures) in
     (omega (arith, c.decreases), (omega arith, omega (arith, c.requires.1, z.0, z.1)))
 
 pub extend-requires-3 : goal.extend-requires-3
 extend-requires-3 t c =
     let z = sizes t (goal.at.extend-requires-3 t c).After-difference-2 in
-    let l = c.if-from-recipes.false in
+    let l : c.args.from < length (order_of c.args.self.now.order) = omega (arith, c.if-from-len.false, c.len.ensures) in
     (omega (arith, c.decreases), (omega arith, omega (arith, c.requires.1, c.extend-2.ensures.room, z.0, z.1)))
 
 pub push_if-requires-2 : goal.push_if-requires-2
@@ -111,7 +113,7 @@ push_if-requires-2 t c =
 pub extend-requires-4 : goal.extend-requires-4
 extend-requires-4 t c =
     let z = sizes t (goal.at.extend-requires-4 t c).After-difference-2 in
-    let l = c.if-from-recipes.false in
+    let l : c.args.from < length (order_of c.args.self.now.order) = omega (arith, c.if-from-len.false, c.len.ensures) in
     (omega (arith, c.decreases), (omega arith, omega (arith, c.requires.1, c.extend-2.ensures.room, c.extend-3.ensures.room, c.push_if-2.ensures.room, z.0, z.1)))
 
 pub push_if-requires-3 : goal.push_if-requires-3
@@ -121,9 +123,9 @@ push_if-requires-3 t c =
 
 pub returns : goal.returns
 returns t c =
-    let s = c.args.recipes.now in
-    let l = c.if-from-recipes.false in
-    let v = latch_at s.order c.args.from in
+    let s = c.args.self.now in
+    let l : c.args.from < length (order_of c.args.self.now.order) = omega (arith, c.if-from-len.false, c.len.ensures) in
+    let v = c.latch-latch.result in
     let others = c.without-others.result in
     let kept : c.is_some-kept.result ≡ kept_in? true s.table v = c.is_some-kept.ensures ∙ ap is_some c.recipe.ensures in
     let back : c.if-kept.push_if ≡ (c.is_some-kept.result && asks? false (asks_of s.task.want v)) =
@@ -131,10 +133,10 @@ returns t c =
       | then-kept w ↦ w.push_if-is ∙ w.is_asked-then-kept.ensures ∙ ap (λ (b : Bool). b && asks? false (asks_of s.task.want v)) (sym w.if-kept.true)
       | else-kept w ↦ w.push_if-is ∙ w.if-kept.false ∙ ap (λ (b : Bool). b && asks? false (asks_of s.task.want v)) (sym w.if-kept.false)
     ] in
-    extends_split s c.args.set c.args.from l (sym c.if-not-contains.ensures) others c.without-others.ensures c.both-zero.result
-    c.both-one.result c.difference-2.result (splits s c.args.from l true c.if-not-contains-2.ensures)
+    extends_split s c.args.set c.args.from l c.latch-latch.result c.latch-latch.ensures (sym c.if-not-contains.ensures) others c.without-others.ensures c.both-zero.result
+    c.both-one.result c.difference-2.result (splits s c.args.from l c.latch-latch.result c.latch-latch.ensures true c.if-not-contains-2.ensures)
     (on s false v others c.side.result c.both-zero.result c.both-zero.ensures c.side.ensures)
     (on s true v others c.side-2.result c.both-one.result c.both-one.ensures c.side-2.ensures)
     (off others c.both-zero.result c.both-one.result c.difference.result c.difference-2.result c.difference.ensures c.difference-2.ensures)
-    c.args.self.now _ _ _ _ _ _ _ (kept ∙ s.members true v) back c.extend-2.ensures c.extend-3.ensures c.push_if-2.ensures
+    (items c.args.entries.now) _ _ _ _ _ _ _ (kept ∙ s.members true v) back c.extend-2.ensures c.extend-3.ensures c.push_if-2.ensures
     c.extend-4.ensures c.push_if-3.ensures
