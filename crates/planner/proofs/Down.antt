@@ -5,7 +5,7 @@ use Rattle.words.specs.Sets.{has}
 use Rattle.theory.specs.Recipes.{kept?, helper?}
 use Rattle.theory.specs.Route.{kept_table}
 use Rattle.theory.proofs.Opening.{no_recipe}
-use Rattle.table.specs.Items.{items}
+use Rattle.tables.specs.Items.{items}
 use Rattle.tasks.specs.declared.task.NormalTask.{NormalTask}
 use Rattle.tasks.specs.Places.{move_at}
 use Rattle.tasks.specs.Tasks.{task_of}

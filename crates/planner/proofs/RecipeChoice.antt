@@ -8,7 +8,7 @@ use Rattle.theory.specs.Tasks.{Move}
 use Rattle.theory.specs.Recipes.{Table, opened, recipe_with, serves?, recipe_parts, chosen, recipe}
 use Rattle.theory.specs.Recipes.{Recipe as RecipeMeant}
 use Rattle.theory.proofs.Searches.{below_cases}
-use Rattle.table.specs.Items.{items}
+use Rattle.tables.specs.Items.{items}
 use Rattle.tasks.specs.declared.task.NormalMove.{NormalMove}
 use Rattle.tasks.specs.declared.task.NormalTask.{NormalTask}
 use Rattle.tasks.specs.Places.{no_move, move_at}

@@ -17,7 +17,7 @@ use Rattle.theory.specs.Order.{order as order_meant}
 use Rattle.theory.specs.Recipes.{kept?, moves_to, helper?, recipe_parts, opened}
 use Rattle.theory.specs.Route.{kept_table}
 use Rattle.rules.specs.NormalForm.{number_of}
-use Rattle.table.specs.Items.{items}
+use Rattle.tables.specs.Items.{items}
 use Rattle.tasks.specs.declared.task.NormalTask.{NormalTask}
 use Rattle.tasks.specs.Places.{move_at}
 use Rattle.tasks.specs.Tasks.{move_of, task_of}

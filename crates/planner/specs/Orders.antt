@@ -4,7 +4,7 @@
 --   order_of o           the latches of o in order
 use Rattle.std.specs.Prelude.{◌≡◌, ℕ, List, Option, MatchOption}
 use Rattle.std.proofs.Math.Option.{none, some}
-use Rattle.table.specs.Items.{items}
+use Rattle.tables.specs.Items.{items}
 use Rattle.words.specs.declared.LatchSet.{LatchSet}
 use Rattle.words.specs.Sets.{has}
 use Rattle.theory.specs.Searches.{has as listed, lowest}

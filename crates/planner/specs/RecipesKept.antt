@@ -33,7 +33,7 @@ use Rattle.planner.specs.declared.recipes.recipe.Recipe.{Recipe}
 use Rattle.planner.specs.declared.recipes.recipe_table.Kept.{Kept as KeptRecipes}
 use Rattle.planner.specs.declared.recipes.recipe_table.Kept.TheVariants.{Neither, One, Both}
 use Rattle.planner.specs.declared.recipes.recipe_table.RecipeTable.{RecipeTable}
-use Rattle.table.specs.Items.{items}
+use Rattle.tables.specs.Items.{items}
 use Rattle.tasks.specs.declared.task.NormalTask.{NormalTask}
 use Rattle.planner.specs.Orders.{order_of}
 use Rattle.tasks.specs.Places.{move_at}

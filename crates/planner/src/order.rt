@@ -2,7 +2,7 @@
 mod list;
 
 ghost use Rattle.std.specs.Prelude.{◌≡◌, ℕ, ◌<◌, List, [], length};
-ghost use Rattle.table.specs.Items.{items};
+ghost use Rattle.tables.specs.Items.{items};
 ghost use Rattle.theory.specs.Order.{order};
 ghost use Rattle.tasks.specs.Tasks.{task_of};
 ghost use Rattle.planner.specs.Made.{latch_at};
@@ -10,7 +10,7 @@ ghost use Rattle.planner.specs.Orders.{Members, PlacedNext, order_of};
 
 use book::MOST_LATCHES;
 pub(crate) use list::Order;
-use table::Table;
+use tables::Table;
 use tasks::NormalTask;
 use words::LatchSet;
 

@@ -5,7 +5,7 @@ mod tabled;
 
 ghost use Rattle.std.specs.Prelude.{◌≡◌, ℕ, ◌+◌, ◌*◌, ◌^◌, ◌<◌, ◌≤◌, true, ◌&&◌, [], length as length_of};
 ghost use Rattle.std.specs.List.{flat_map};
-ghost use Rattle.table.specs.Items.{items};
+ghost use Rattle.tables.specs.Items.{items};
 ghost use Rattle.words.specs.Sets.{has};
 ghost use Rattle.planner.specs.Limits.{most_entries};
 ghost use Rattle.theory.specs.Class.{in_class?};
@@ -20,8 +20,8 @@ ghost use Rattle.planner.specs.Routes.{moves_of};
 use crate::recipes::Recipes;
 use entries::Entries;
 use entry::Entry;
-use table::Table;
 pub use tabled::Route;
+use tables::Table;
 use tasks::{NormalTask, is_asked};
 use words::LatchSet;
 

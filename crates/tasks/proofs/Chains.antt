@@ -20,7 +20,7 @@ use Rattle.std.proofs.lemmas.Iterator.Search.{all_from_yields_List}
 use Rattle.std.proofs.lemmas.List.{map_push}
 use Rattle.std.proofs.lemmas.List.FromFn.{map-range_with_len_more}
 use Rattle.std.proofs.lemmas.List.Folds.{list_all-append, list_all-map}
-use Rattle.table.specs.Items.{items}
+use Rattle.tables.specs.Items.{items}
 use Rattle.words.specs.declared.LatchSet.{LatchSet}
 use Rattle.words.specs.Sets.{most_latches, no_latch, has, Below}
 use Rattle.words.proofs.Members.{no_member}

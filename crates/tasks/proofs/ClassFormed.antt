@@ -1,7 +1,7 @@
 -- The task that a record stands for is well formed.
 use Rattle.std.proofs.Common.{◌≡◌, ℕ, ◌<◌, true, cond, ◌≢◌, length, sym, ap, ◌∙◌, subst}
 use mathlib.Core.Option.{some, none}
-use Rattle.table.specs.Items.{items}
+use Rattle.tables.specs.Items.{items}
 use Rattle.words.specs.Sets.{has}
 use Rattle.book.specs.declared.partial.PartialSetting.{PartialSetting}
 use Rattle.theory.specs.Searches.{In}

@@ -3,7 +3,7 @@
 --   moves_of t   the moves of t
 --   task_of t    the task that t stands for
 use Rattle.std.specs.Prelude.{List, map}
-use Rattle.table.specs.Items.{items}
+use Rattle.tables.specs.Items.{items}
 use Rattle.theory.specs.Tasks.{Move, Task}
 use Rattle.tasks.specs.declared.task.NormalMove.{NormalMove}
 use Rattle.tasks.specs.declared.task.NormalTask.{NormalTask}

@@ -10,7 +10,7 @@ ghost use Rattle.tasks.specs.Tasks.{move_of, task_of};
 use crate::task::{NormalMove, NormalTask};
 use book::{Book, Errand, Move, PartialSetting};
 use rules::in_normal_form;
-use table::Table;
+use tables::Table;
 use words::{LatchSet, MOST_LATCHES};
 
 /// An empty place for a move.

@@ -1,12 +1,12 @@
 //! Tasks in normal form: all latches start at 0.
 ghost use Rattle.std.specs.Prelude.{◌≡◌, ℕ, ◌<◌, ◌≤◌, true, not, length};
-ghost use Rattle.table.specs.Items.{items};
+ghost use Rattle.tables.specs.Items.{items};
 ghost use Rattle.words.specs.Sets.{most_latches, has, Below};
 ghost use Rattle.book.specs.Limits.{most_moves};
 ghost use Rattle.tasks.specs.Places.{move_at};
 
 use book::{MOST_MOVES, PartialSetting};
-use table::Table;
+use tables::Table;
 
 /// A move in normal form: its number in the book, the latch that it throws, its target, and what it asks.
 #[derive(Clone, Copy)]

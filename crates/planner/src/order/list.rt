@@ -1,6 +1,6 @@
 //! Latches one behind another.
 use book::MOST_LATCHES;
-use table::Table;
+use tables::Table;
 
 /// Latches in the order in which they are placed.
 #[derive(Clone, Copy)]

@@ -1,7 +1,7 @@
 //! The entries of a route.
 use crate::route::entry::Entry;
 use book::MOST_LATCHES;
-use table::Table;
+use tables::Table;
 
 /// The most entries of a route: two for each latch.
 pub(crate) const MOST_ENTRIES: usize = 2 * MOST_LATCHES;

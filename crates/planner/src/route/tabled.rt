@@ -1,6 +1,6 @@
 //! The table of a route.
 ghost use Rattle.std.specs.Prelude.{◌≡◌, length as length_of};
-ghost use Rattle.table.specs.Items.{items};
+ghost use Rattle.tables.specs.Items.{items};
 ghost use Rattle.planner.specs.Laid.{Placed};
 ghost use Rattle.planner.specs.Listed.{Listed, route_numbers};
 

@@ -1,5 +1,5 @@
 use Rattle.std.proofs.Common.{arith}
-use Rattle.table.specs.Items.{items}
+use Rattle.tables.specs.Items.{items}
 use Rattle.tasks.specs.Tasks.{task_of}
 use Rattle.planner.proofs.Placing.{none_placed, one_more, none_next, all_placed}
 use Rattle.planner.proofs.order.place_all.Goals as goal

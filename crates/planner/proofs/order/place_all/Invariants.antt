@@ -1,4 +1,4 @@
-use Rattle.table.specs.Items.{items}
+use Rattle.tables.specs.Items.{items}
 use Rattle.tasks.specs.Tasks.{task_of}
 use Rattle.planner.proofs.Placing.{Placing}
 use Rattle.planner.proofs.order.place_all.Given as goal

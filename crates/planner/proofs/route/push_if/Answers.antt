@@ -1,4 +1,4 @@
-use Rattle.table.specs.Items.{items}
+use Rattle.tables.specs.Items.{items}
 use Rattle.planner.proofs.Pushing.{put}
 use Rattle.planner.proofs.route.push_if.Goals as goal
 

@@ -1,5 +1,5 @@
 use Rattle.std.proofs.Common.{ap, ◌∙◌, arith}
-use Rattle.table.specs.Items.{items}
+use Rattle.tables.specs.Items.{items}
 use Rattle.tasks.proofs.NormalFormTasks.{Brought, Read, book_read, read_latch, turn_dropped, turn_kept, all_brought, brought_task, brought_well, place_own, place_within, place_asks_own, place_wanted}
 use Rattle.tasks.proofs.normal.normal_task.Goals as goal
 use Rattle.tasks.proofs.normal.normal_task.Goals.{After-m-item, After-normal_asks, in-Some, in_default}

@@ -1,4 +1,4 @@
-use Rattle.table.specs.Items.{items}
+use Rattle.tables.specs.Items.{items}
 use Rattle.tasks.proofs.NormalFormTasks.{Brought}
 use Rattle.tasks.proofs.normal.normal_task.Given as goal
 

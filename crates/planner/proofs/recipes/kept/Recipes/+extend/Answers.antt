@@ -6,7 +6,7 @@ use Rattle.theory.specs.Class.{side?, splitting?}
 use Rattle.tasks.specs.Asks.{asks_of}
 use Rattle.tasks.specs.Tasks.{task_of}
 use Rattle.planner.specs.declared.recipes.kept.Recipes.{Recipes}
-use Rattle.table.specs.Items.{items}
+use Rattle.tables.specs.Items.{items}
 use Rattle.planner.specs.Laid.{rest, size}
 use Rattle.planner.specs.Made.{latch_at}
 use Rattle.planner.specs.RecipesKept.{kept_in?}

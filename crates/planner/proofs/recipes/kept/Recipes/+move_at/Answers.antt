@@ -1,5 +1,5 @@
 use Rattle.std.proofs.Common.{◌≡◌, ℕ, ◌-◌, ◌<◌, Bool, true, false, List, [], ◌∷◌, ◌++◌, length, get_or, Some, Option, unwrap_or, sym, refl, ap, ◌∙◌, append-nil, arith}
-use Rattle.table.specs.Items.{items}
+use Rattle.tables.specs.Items.{items}
 use Rattle.tasks.specs.declared.task.NormalMove.{NormalMove}
 use Rattle.std.proofs.lemmas.List.{get_or_default}
 use Rattle.tasks.specs.Places.{no_move, move_at}

@@ -1,6 +1,6 @@
 use Rattle.std.proofs.Common.{◌≡◌, ◌^◌, ◌<◌, true, length, sym, ap, ◌∙◌, subst, arith}
 use Rattle.theory.specs.Recipes.{serves?}
-use Rattle.table.specs.Items.{items}
+use Rattle.tables.specs.Items.{items}
 use Rattle.tasks.specs.declared.task.NormalMove.{NormalMove}
 use Rattle.tasks.specs.Places.{move_at}
 use Rattle.tasks.specs.Tasks.{move_of, task_of}

@@ -1,5 +1,5 @@
 use Rattle.std.proofs.Common.{ℕ, ◌^◌, ◌<◌, List, length, sym, ap, ◌∙◌, subst}
-use Rattle.table.specs.Items.{items}
+use Rattle.tables.specs.Items.{items}
 use Rattle.planner.proofs.Listing.{listed, route_fits}
 use Rattle.planner.proofs.route.tabled.Route.of.Goals as goal
 

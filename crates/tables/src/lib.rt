@@ -29,7 +29,7 @@ impl<T: Copy, const ROOM: usize> Clone for Table<T, ROOM> {
 }
 
 impl<T: Copy, const ROOM: usize> Table<T, ROOM> {
-    ghost use Rattle.table.specs.Items.{items};
+    ghost use Rattle.tables.specs.Items.{items};
 
     /// A table with no item, its places filled with this one.
     pub fn new(filler: T) -> Table<T, ROOM>
