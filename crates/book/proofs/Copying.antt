@@ -1,19 +1,12 @@
 -- The bytes of a name: copied to the front of an array of zeros, and read as text.
-use Rattle.std.proofs.Common.{◌≡◌, ℕ, zero, suc, ◌-◌, ◌<◌, ◌≤◌, true, List, [], ◌∷◌, ◌++◌, length, get_or, take, drop, replicate, refl, ◌∙◌, arith, length-append, length-drop, lit<}
+use Rattle.std.proofs.Common.{◌≡◌, ℕ, zero, suc, ◌-◌, ◌<◌, ◌≤◌, true, List, [], ◌∷◌, ◌++◌, length, get_or, take, drop, replicate, ◌∙◌, arith, length-append, length-drop, lit<}
 use Rattle.std.proofs.lemmas.Bool.{and_parts}
 use Rattle.std.proofs.lemmas.Bool.Decides.{nat_tests}
-use Rattle.std.proofs.lemmas.List.{length-replicate}
+use Rattle.std.proofs.lemmas.List.{length-replicate, get_or-drop}
 use Rattle.std.proofs.Math.Seq.{take-append_seam, get_or-append_right}
 use Rattle.std.specs.Str.{IsAscii}
+use Rattle.book.proofs.Empty.{all_equal}
 use Rattle.book.specs.Names.{most_chars, name_char, name_chars}
-
--- zeros all the way, from any place on
-zeros : (n i k : ℕ) → ◌≡◌ {A = ℕ} (get_or (drop i (replicate n 0)) k 0) 0
-zeros zero zero k = refl
-zeros zero (suc i) k = refl
-zeros (suc n) zero zero = refl
-zeros (suc n) zero (suc k) = zeros n zero k
-zeros (suc n) (suc i) k = zeros n i k
 
 -- w, which is v, and zeros up to the most characters
 module _ (v w : List ℕ) (e : w ≡ v) (l : length v ≤ most_chars) where
@@ -24,7 +17,7 @@ module _ (v w : List ℕ) (e : w ≡ v) (l : length v ≤ most_chars) where
   copied = rw e (take-append_seam v _)
 
   pub padded : (k : ℕ) → length v ≤ k → get_or (w ++ drop (length v) (replicate most_chars 0)) k 0 ≡ 0
-  padded k m = rw e (get_or-append_right v _ k 0 m ∙ zeros most_chars (length v) (k - length v))
+  padded k m = rw e (get_or-append_right v _ k 0 m ∙ get_or-drop (length v) _ (k - length v) 0 ∙ all_equal most_chars _ 0)
 
 -- a character that a name may have is ASCII
 low : (c : ℕ) → name_char c ≡ true → c < 128
