@@ -1,15 +1,13 @@
 //! The kinds of latch: which are static, and which are reversible.
-ghost use Rattle.std.specs.Prelude.{◌≡◌, ℕ, true, ◌||◌, Decides, ◌==◌};
+ghost use Rattle.std.specs.Prelude.{◌≡◌};
 ghost use Rattle.words.specs.Sets.{Below};
-ghost use Rattle.theory.specs.Class.{thrown?, static?, same_ask?, reverse?, reversible?};
+ghost use Rattle.theory.specs.Class.{thrown?, static?, reverse?, reversible?};
 ghost use Rattle.theory.specs.Searches.{some_of};
 ghost use Rattle.theory.specs.Tasks.{Task};
-ghost use Rattle.tasks.specs.Asks.{asks_of};
 ghost use Rattle.tasks.specs.Tasks.{move_of, moves_of, task_of};
 
 use crate::edges::is_asked;
 use crate::task::{NormalMove, NormalTask};
-use book::PartialSetting;
 
 impl NormalMove {
     /// Whether `other` is the reverse of this move, in every task with room for both.

@@ -7,6 +7,7 @@ ghost use Rattle.rules.specs.NormalForm.{exchanged, exchanged_ask, normal_move a
 ghost use Rattle.tasks.specs.Asks.{asks_of, rule_of, rules_of, setting_of};
 ghost use Rattle.tasks.specs.Tasks.{move_of, task_of};
 
+use crate::edges::is_asked;
 use crate::task::{NormalMove, NormalTask};
 use book::{Book, Errand, Move, PartialSetting};
 use rules::in_normal_form;
@@ -39,13 +40,6 @@ fn normal_asks(asked: PartialSetting, start: LatchSet) -> PartialSetting
     }
 }
 
-/// Whether the move has the condition that its own latch be at its target.
-fn asks_target(m: &Move) -> bool
-    ensures { result ≡ dropped? (rule_of m.now) }
-{
-    m.when.named.contains(m.latch) && m.when.ones.contains(m.latch) == m.to
-}
-
 /// The move in normal form, unless it is never legal.
 fn normal_move(number: u8, m: &Move, start: LatchSet) -> Option<NormalMove>
     requires { m.now.latch < most_latches }
@@ -54,7 +48,7 @@ fn normal_move(number: u8, m: &Move, start: LatchSet) -> Option<NormalMove>
         × ((n : ℕ) → m.now.latch < n → Below n m.now.when.named
         → move_of x ≡ rule_in_normal_form (setting_of n start) number (rule_of m.now))) }
 {
-    if asks_target(m) {
+    if is_asked(m.when, m.to, m.latch) {
         return None;
     }
     let to = in_normal_form(m.to, start.contains(m.latch));
