@@ -47,14 +47,6 @@ returns-in-Ok t c =
 behind : Recipes → ℕ → Recipe → List ℕ
 behind s i r = (move_at s.task.moves r.place).number ∷ helped s.task false r.helpers (in_turn s.order false i)
 
-pub bounds-self-recipe : goal.bounds-self-recipe
-bounds-self-recipe t c =
-    omega (
-      arith,
-      within c.args.self.now c.args.place c.requires.0 c.args.to c.args.k c.requires.1 c.in_ok-recipe.recipe c.in_ok-recipe.ensures,
-      c.args.self.now.task.places,
-    )
-
 pub returns-then-rest-eq0 : goal.returns-then-rest-eq0
 unfolding parts behind
 returns-then-rest-eq0 t c =
@@ -93,11 +85,3 @@ returns-in-Err-seek t c =
     sym (c.in-Err-seek.ensures [])
     ∙ lower s i r c.in-Err.rest _ c.if-rest-eq0.false refl ∙ sym (c.in-Err.ensures (behind s i r))
     ∙ whole s i c.requires.0 c.args.to c.args.k c.requires.1 r c.in_ok-recipe.ensures
-
--- without a recipe there is no place
-pub returns-in_err-recipe : goal.returns-in_err-recipe
-returns-in_err-recipe t c =
-    let s = c.args.self.now in
-    let u = latch_at s.order c.args.place in
-    let none : 0 ≡ (recipe_at c.args.to s.table u).length = ap (λ (o : Option Recipe). (unwrap_or o no_recipe).length) c.in_err-recipe.ensures in
-    absurd (omega (arith, c.requires.1, s.counts c.args.to u))
