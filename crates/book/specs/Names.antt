@@ -5,6 +5,7 @@
 --   well_named v   v is a name: 1 to 11 such bytes
 --   same v w       v and w are the same bytes
 use Rattle.std.specs.Prelude.{ℕ, Bool, true, false, ◌&&◌, ◌||◌, List, [], ◌∷◌, length, ◌==◌, nat_le}
+use Rattle.std.specs.List.{list_all}
 
 -- the most characters of a name
 abbrev pub most_chars : ℕ
@@ -16,8 +17,7 @@ name_char c = (nat_le 65 c && nat_le c 90) || (nat_le 48 c && nat_le c 57) || c 
 
 -- each of them may stand in a name
 abbrev pub name_chars : List ℕ → Bool
-name_chars [] = true
-name_chars (c ∷ cs) = name_char c && name_chars cs
+name_chars v = list_all name_char v
 
 -- 1 to 11 such bytes
 abbrev pub well_named : List ℕ → Bool

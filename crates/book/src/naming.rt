@@ -1,9 +1,10 @@
 //! Making names, and reading them.
-ghost use Rattle.std.specs.Prelude.{◌≡◌, ◌≤◌, true, false, length, MatchOption};
-ghost use Rattle.book.specs.Names.{most_chars, name_char, name_chars, well_named};
+ghost use Rattle.std.specs.Prelude.{◌≡◌, true, false, Some, MatchOption};
+ghost use Rattle.book.specs.Names.{name_char, well_named};
 ghost use Rattle.book.specs.Places.{name_of};
 
 use crate::name::{MOST_CHARS, Name};
+use std::fmt;
 
 /// Whether a name may have this character: A to Z, 0 to 9 or a hyphen.
 pub fn is_name_char(c: char) -> bool
@@ -23,31 +24,36 @@ impl Name {
         if v.is_empty() || v.len() > MOST_CHARS {
             return None;
         }
-        copied(v)
+        if !v.iter().all(|b| is_name_char(char::from(*b))) {
+            return None;
+        }
+        let mut bytes = [0; MOST_CHARS];
+        bytes[..v.len()].copy_from_slice(v);
+        Some(Name {
+            bytes,
+            len: v.len() as u8,
+        })
     }
 
-    /// The characters of the name.
+    /// The characters of the name, as bytes.
     pub fn as_bytes(&self) -> &[u8]
         ensures { result.now ≡ name_of self.now }
     {
-        &self.bytes[0..self.len as usize]
+        &self.bytes[..self.len as usize]
+    }
+
+    /// The characters of the name, as text.
+    pub fn as_str(&self) -> &str
+        ensures { result.now ≡ name_of self.now }
+    {
+        std::str::from_utf8(self.as_bytes()).unwrap()
     }
 }
 
-/// The name that at most 11 bytes are, if a name may have each of them.
-fn copied(v: &[u8]) -> Option<Name>
-    requires { length v.now ≤ most_chars }
-    ensures { MatchOption result (name_chars v.now ≡ false) (λ n. (name_chars v.now ≡ true) × (name_of n ≡ v.now)) }
-{
-    let mut bytes = [0; MOST_CHARS];
-    for (i, b) in v.iter().enumerate() {
-        if !is_name_char(char::from(*b)) {
-            return None;
-        }
-        bytes[i] = *b;
+impl fmt::Display for Name {
+    ghost output = { λ name. Some (name_of name) };
+
+    fn fmt<W: fmt::Write>(&self, f: &mut fmt::Formatter<W>) -> fmt::Result {
+        f.write_str(self.as_str())
     }
-    Some(Name {
-        bytes,
-        len: v.len() as u8,
-    })
 }

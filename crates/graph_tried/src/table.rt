@@ -14,9 +14,9 @@ impl Graph for Table {
     ghost arc = { table_arc };
 
     fn neighbours(&self, node: u8) -> LatchSet {
-        if node >= MOST_LATCHES {
-            return LatchSet::EMPTY;
-        }
-        self.rows[node as usize]
+        self.rows
+            .get(node as usize)
+            .copied()
+            .unwrap_or(LatchSet::EMPTY)
     }
 }

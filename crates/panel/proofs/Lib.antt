@@ -1,5 +1,6 @@
 pub mod Rows
 pub mod Switched
 pub mod Masks
-mod Fronts
+mod Looks
+mod Filled
 mod Pulses

@@ -6,7 +6,7 @@ use Rattle.std.proofs.lemmas.Bool.{lt-ltb, le-ltb, cond-true, cond-false, cases_
 use Rattle.words.specs.declared.LatchSet.{LatchSet}
 use Rattle.words.specs.Sets.{has}
 use Rattle.panel.specs.Settings.{row, digit, within?, looked, thrown, differs, flipped}
-use Rattle.panel.proofs.Rows.{length_row, within_row, read_row, read_row_past, set_row}
+use Rattle.panel.proofs.Rows.{within_row, read_row, set_row}
 
 differs_twice : (a b : Bool) → differs (differs a b) b ≡ a
 differs_twice true true = refl
@@ -43,9 +43,6 @@ none_looked s i e =
     ]
 
 module _ (m : LatchSet) (s : List Bool) where
-  pub length_flipped : length (flipped m s) ≡ length s
-  length_flipped = length_row (length s) (λ i. differs (slice_index_or s i false) (has m i))
-
   pub within_flipped : (i : ℕ) → within? (flipped m s) i ≡ within? s i
   within_flipped i = within_row (length s) (λ j. differs (slice_index_or s j false) (has m j)) i
 
@@ -54,10 +51,10 @@ module _ (m : LatchSet) (s : List Bool) where
   looked_flipped i b t e q =
       let p = some_looked s i b e in
       ap (λ (k : ℕ). Some k) (turned (slice_index_or s i false) t b p.1 ∙ ap (λ (x : Bool). digit (differs (slice_index_or s i false) x)) q)
-      ∙ read_row (length s) (λ j. differs (slice_index_or s j false) (has m j)) digit i false (sym (lt-ltb i (length s) p.0))
+      ∙ read_row (length s) (λ j. differs (slice_index_or s j false) (has m j)) digit i false true (sym (lt-ltb i (length s) p.0))
 
   pub looked_flipped_past : (i : ℕ) → None ≡ looked s i → None ≡ looked (flipped m s) i
-  looked_flipped_past i e = read_row_past (length s) (λ j. differs (slice_index_or s j false) (has m j)) digit i false (sym (none_looked s i e))
+  looked_flipped_past i e = read_row (length s) (λ j. differs (slice_index_or s j false) (has m j)) digit i false false (sym (none_looked s i e))
 
   -- a throw below, to the opposite where the mask has the latch
   pub thrown_flipped : (u : List Bool) (i : ℕ) (b t : Bool) → u ≡ thrown s i (differs b t) → t ≡ has m i → flipped m u ≡ thrown (flipped m s) i b

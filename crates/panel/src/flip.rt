@@ -1,10 +1,9 @@
 //! Flip panels: a panel seen through a mask.
-ghost use Rattle.std.specs.Prelude.{◌≡◌, ℕ, false, length, slice_index_or};
-ghost use Rattle.words.specs.Sets.{has};
-ghost use Rattle.panel.specs.Settings.{within?, thrown, differs};
+ghost use Rattle.std.specs.Prelude.{◌≡◌};
+ghost use Rattle.panel.specs.Settings.{within?, thrown};
 ghost use Rattle.panel.specs.Kinds.{flip_setting};
 ghost use Rattle.std.proofs.Common.{arith};
-ghost use Rattle.std.proofs.lemmas.List.FromFn.{length-map-range_with_len};
+ghost use Rattle.panel.specs.Lengths.{length_flipped};
 
 use super::Panel;
 use words::LatchSet;
@@ -37,9 +36,9 @@ impl<P: Panel> Flip<P> {
 impl<P: Panel> Panel for Flip<P> {
     ghost setting = { flip_setting P.Panel.setting };
 
-    ghost some = { λ p. omega (arith, length-map-range_with_len (λ (i : ℕ). differs (slice_index_or (P.Panel.setting p.inner) i false) (has p.mask i)) 0 (length (P.Panel.setting p.inner)), P.Panel.some p.inner) };
+    ghost some = { λ p. omega (arith, length_flipped p.mask (P.Panel.setting p.inner), P.Panel.some p.inner) };
 
-    ghost few = { λ p. omega (arith, length-map-range_with_len (λ (i : ℕ). differs (slice_index_or (P.Panel.setting p.inner) i false) (has p.mask i)) 0 (length (P.Panel.setting p.inner)), P.Panel.few p.inner) };
+    ghost few = { λ p. omega (arith, length_flipped p.mask (P.Panel.setting p.inner), P.Panel.few p.inner) };
 
     fn width(&self) -> u8 {
         self.inner.width()

@@ -1,10 +1,10 @@
 //! Register panels: one word with a bit for each latch.
-ghost use Rattle.std.specs.Prelude.{◌≡◌};
+ghost use Rattle.std.specs.Prelude.{◌≡◌, Bool};
 ghost use Rattle.words.specs.Sets.{has};
-ghost use Rattle.panel.specs.Settings.{row, thrown, made};
+ghost use Rattle.panel.specs.Settings.{made};
 ghost use Rattle.panel.specs.Kinds.{register_setting};
 ghost use Rattle.std.proofs.Common.{arith};
-ghost use Rattle.std.proofs.lemmas.List.FromFn.{length-map-range_with_len};
+ghost use Rattle.panel.specs.Lengths.{length_row};
 
 use super::Panel;
 use super::width::Width;
@@ -33,9 +33,9 @@ impl Register {
 impl Panel for Register {
     ghost setting = { register_setting };
 
-    ghost some = { λ p. omega (arith, length-map-range_with_len (has p.raised) 0 p.width.count) };
+    ghost some = { λ p. omega (arith, length_row {X = Bool}) };
 
-    ghost few = { λ p. omega (arith, length-map-range_with_len (has p.raised) 0 p.width.count) };
+    ghost few = { λ p. omega (arith, length_row {X = Bool}) };
 
     fn width(&self) -> u8 {
         self.width.count()
@@ -46,21 +46,7 @@ impl Panel for Register {
     }
 
     fn throw(&mut self, latch: u8, to: bool) -> bool {
-        self.raised = put(self.raised, self.width, latch, to);
+        self.raised = self.raised.put(latch, to);
         self.width.has(latch)
-    }
-}
-
-/// The set with the latch if `to`, else without it; a latch at or beyond the width is passed over.
-fn put(set: LatchSet, width: Width, latch: u8, to: bool) -> LatchSet
-    ensures { row width.count (has result) ≡ thrown (row width.count (has set)) latch to }
-{
-    if !width.has(latch) {
-        return set;
-    }
-    if to {
-        set.with(latch)
-    } else {
-        set.without(latch)
     }
 }

@@ -1,41 +1,30 @@
 //! Relay panels: a pair of coils for each latch.
-ghost use Rattle.std.specs.Prelude.{◌≡◌, ℕ, ◌≤◌, replicate};
-ghost use Rattle.words.specs.Bit.{set?};
-ghost use Rattle.panel.specs.Settings.{widest, row, clamped, made, within?, thrown};
-ghost use Rattle.panel.specs.Kinds.{coil_at, up?, resting, pulsed, coils_at, relay_setting, relay_counts, counted, count_at, CoilsOf};
+ghost use Rattle.std.specs.Prelude.{◌≡◌, Bool, replicate};
+ghost use Rattle.panel.specs.Settings.{clamped, made, within?, thrown};
+ghost use Rattle.panel.specs.Kinds.{coil_at, resting, pulsed, relay_setting, relay_counts, counted, count_at, CoilsOf};
 ghost use Rattle.std.proofs.Common.{arith};
-ghost use Rattle.std.proofs.lemmas.List.FromFn.{length-map-range_with_len};
+ghost use Rattle.panel.specs.Lengths.{length_row};
 
 use super::Panel;
 use super::width::{WIDEST, Width};
 use words::LatchSet;
 
-/// Where a count of pulses stops.
-pub const PULSE_LIMIT: u16 = 65_535;
+/// Where a count of pulses stops: the most that it can be.
+pub const PULSE_LIMIT: u16 = u16::MAX;
 
-/// A coil of a latch: a pulse of `Set` puts the latch at position 1, one of `Reset` at position 0.
+/// A coil of a latch: a pulse of `Set` puts the latch at position 1, one of `Reset` at position 0, as the coils are numbered.
 #[derive(Clone, Copy)]
 enum Coil {
-    Reset,
-    Set,
+    Reset = 0,
+    Set = 1,
 }
 
-impl Coil {
-    /// The coil that puts a latch at position 1 if `to`, else at 0.
-    fn at(to: bool) -> Coil
-        ensures { result ≡ coil_at to }
-    {
-        if to { Coil::Set } else { Coil::Reset }
-    }
+impl From<bool> for Coil {
+    ghost from_gives = { λ to coil. coil ≡ coil_at to };
 
-    /// Whether a pulse of the coil puts its latch at position 1.
-    fn is_up(self) -> bool
-        ensures { result ≡ up? self }
-    {
-        match self {
-            Coil::Reset => false,
-            Coil::Set => true,
-        }
+    /// The coil that puts a latch at position 1 if `to`, else at 0.
+    fn from(to: bool) -> Coil {
+        if to { Coil::Set } else { Coil::Reset }
     }
 }
 
@@ -52,7 +41,7 @@ impl Coils {
         ensures { result ≡ resting up }
     {
         Coils {
-            last: Coil::at(up),
+            last: Coil::from(up),
             pulses: 0,
         }
     }
@@ -61,12 +50,10 @@ impl Coils {
     fn pulsed(self, coil: Coil) -> Coils
         ensures { result ≡ pulsed self coil }
     {
-        let pulses = if self.pulses < PULSE_LIMIT {
-            self.pulses + 1
-        } else {
-            PULSE_LIMIT
-        };
-        Coils { last: coil, pulses }
+        Coils {
+            last: coil,
+            pulses: self.pulses.saturating_add(1),
+        }
     }
 }
 
@@ -84,9 +71,10 @@ impl Relay {
         ensures setting { relay_setting result ≡ made width positions }
         ensures pulses { relay_counts result ≡ replicate (clamped width) 0 }
     {
+        let raised = LatchSet::from(positions);
         Relay {
             width: Width::clamped(width),
-            coils: all_resting(positions),
+            coils: std::array::from_fn(|latch| Coils::resting(raised.contains(latch as u8))),
         }
     }
 
@@ -94,8 +82,7 @@ impl Relay {
     pub fn pulses(&self, latch: u8) -> Option<u16>
         ensures { result ≡ count_at (relay_counts self.now) latch }
     {
-        let coils = self.coils_of(latch)?;
-        Some(coils.pulses)
+        Some(self.coils_of(latch)?.pulses)
     }
 
     /// The coils of the latch; `None` at and beyond the width.
@@ -115,39 +102,25 @@ impl Relay {
         ensures width { self.new.width ≡ self.old.width }
     {
         if self.width.has(latch) {
-            let coils = self.coils[latch as usize];
-            self.coils[latch as usize] = coils.pulsed(Coil::at(to));
+            let coils = &mut self.coils[latch as usize];
+            *coils = coils.pulsed(Coil::from(to));
         }
     }
-}
-
-/// Coils with no pulse yet, of latches at the positions in the word.
-fn all_resting(positions: u32) -> [Coils; WIDEST as usize]
-    ensures positions { (n : ℕ) → n ≤ widest → row n (λ i. up? (coils_at result i).last) ≡ row n (set? positions) }
-    ensures counts { (n : ℕ) → n ≤ widest → row n (λ i. (coils_at result i).pulses) ≡ replicate n 0 }
-{
-    let raised = LatchSet::from(positions);
-    let mut coils = [Coils::resting(false); WIDEST as usize];
-    for latch in 0..WIDEST {
-        coils[latch as usize] = Coils::resting(raised.contains(latch));
-    }
-    coils
 }
 
 impl Panel for Relay {
     ghost setting = { relay_setting };
 
-    ghost some = { λ p. omega (arith, length-map-range_with_len (λ (i : ℕ). up? (coils_at p.coils i).last) 0 p.width.count) };
+    ghost some = { λ p. omega (arith, length_row {X = Bool}) };
 
-    ghost few = { λ p. omega (arith, length-map-range_with_len (λ (i : ℕ). up? (coils_at p.coils i).last) 0 p.width.count) };
+    ghost few = { λ p. omega (arith, length_row {X = Bool}) };
 
     fn width(&self) -> u8 {
         self.width.count()
     }
 
     fn look(&self, latch: u8) -> Option<u8> {
-        let coils = self.coils_of(latch)?;
-        Some(u8::from(coils.last.is_up()))
+        Some(self.coils_of(latch)?.last as u8)
     }
 
     /// Every throw below the width is one pulse, of the coil of the position thrown to.

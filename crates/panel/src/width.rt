@@ -42,9 +42,6 @@ impl Width {
     pub fn shown(self, latch: u8, up: bool) -> Option<u8>
         ensures { (f : ℕ → Bool) → up ≡ f latch → result ≡ looked (row self.count f) latch }
     {
-        if !self.has(latch) {
-            return None;
-        }
-        Some(u8::from(up))
+        self.has(latch).then_some(u8::from(up))
     }
 }

@@ -1,9 +1,9 @@
 //! Board panels: a bool for each latch.
-ghost use Rattle.std.specs.Prelude.{◌≡◌};
+ghost use Rattle.std.specs.Prelude.{◌≡◌, Bool};
 ghost use Rattle.panel.specs.Settings.{row, clamped};
 ghost use Rattle.panel_tried.specs.Boards.{place, board_setting};
 ghost use Rattle.std.proofs.Common.{arith};
-ghost use Rattle.panel.proofs.Rows.{length_row};
+ghost use Rattle.panel.specs.Lengths.{length_row};
 
 use panel::Panel;
 use panel::width::{WIDEST, Width};
@@ -30,9 +30,9 @@ impl Board {
 impl Panel for Board {
     ghost setting = { board_setting };
 
-    ghost some = { λ p. omega (arith, length_row p.width.count (place p.places)) };
+    ghost some = { λ p. omega (arith, length_row {X = Bool}) };
 
-    ghost few = { λ p. omega (arith, length_row p.width.count (place p.places)) };
+    ghost few = { λ p. omega (arith, length_row {X = Bool}) };
 
     fn width(&self) -> u8 {
         self.width.count()

@@ -4,11 +4,11 @@ use lib.ListN.{length-map}
 use Rattle.std.proofs.lemmas.List.{map-append, drop_more, drop_all, take_more, flat_map_more}
 use Rattle.std.proofs.lemmas.List.Folds.{length-flat_map-take}
 use Rattle.std.proofs.lemmas.Bool.{eq-eqb}
+use Rattle.std.proofs.lemmas.Nat.Bits.{bit_at_ones}
 use Rattle.std.specs.List.{flat_map}
 use Rattle.words.specs.declared.LatchSet.{LatchSet}
 use Rattle.words.specs.Bit.{bit}
 use Rattle.words.specs.Sets.{most_latches, has}
-use Rattle.words.proofs.BitLaws.{bit_not, bit_of_zero}
 use Rattle.theory.specs.Recipes.{Part, moves_to, opened}
 use Rattle.theory.specs.Route.{set_route, kept_table, entries, route}
 use Rattle.theory.specs.Class.{in_class?}
@@ -34,7 +34,7 @@ use Rattle.planner.proofs.Rests.{rest_within, size_most}
 pub all_in : (s : LatchSet) (u : ℕ) → s.word ≡ 4294967295 → u < most_latches → has s u ≡ true
 all_in s u e l =
     eq-eqb (bit s.word u) 1
-    (ap (λ (w : ℕ). bit w u) e ∙ bit_not 32 0 u (omega arith) l ∙ (let none = bit_of_zero u in omega arith))
+    (ap (λ (w : ℕ). bit w u) e ∙ bit_at_ones 32 u l)
 
 module _ (s : Recipes) where
   -- no more latches than there are entries for

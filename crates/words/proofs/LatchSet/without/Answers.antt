@@ -1,5 +1,4 @@
 use Rattle.std.proofs.Common.{arith}
-use Rattle.std.proofs.lemmas.Nat.{one_shl}
 use Rattle.words.proofs.Members.{members_without, members_without_none}
 use Rattle.words.proofs.LatchSet.without.Goals as goal
 
@@ -8,7 +7,4 @@ returns-then-latch-ge-MOST_LATCHES c =
     λ j. members_without_none c.args.self.word c.args.latch j (omega arith) c.if-latch-ge-MOST_LATCHES.true
 
 pub returns : goal.returns
-returns c =
-    λ j.
-    rw (one_shl c.args.latch 32 c.if-latch-ge-MOST_LATCHES.false)
-    (members_without c.args.self.word c.args.latch j (omega arith) c.if-latch-ge-MOST_LATCHES.false)
+returns c = λ j. members_without c.args.self.word c.args.latch j (omega arith) c.if-latch-ge-MOST_LATCHES.false

@@ -1,5 +1,5 @@
 use Rattle.std.proofs.Common.{sym, ◌∙◌}
-use Rattle.panel.proofs.Masks.{length_flipped}
+use Rattle.panel.specs.Lengths.{length_flipped}
 use Rattle.panel.proofs.flip.FlipPanel.width.Goals as goal
 
 pub returns : goal.returns

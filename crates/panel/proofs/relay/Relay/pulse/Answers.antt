@@ -12,7 +12,7 @@ returns-then-has c =
     let i = c.args.latch in
     let l : i < length p.coils = omega (arith, ltb-true i p.width.count (sym c.if-has.ensures.below)) in
     let e : c.pulsed.result ≡ pulsed (coils_at p.coils i) (coil_at c.args.to) =
-    c.pulsed.ensures ∙ ap (λ (x : Coil). pulsed (coils_at p.coils i) x) c.at.ensures in
+    c.pulsed.ensures ∙ ap (λ (x : Coil). pulsed (coils_at p.coils i) x) c.from.ensures in
     record {
       setting = positions_pulsed p.coils i c.args.to c.pulsed.result l e p.width.count;
       counts = counts_pulsed p.coils i c.args.to c.pulsed.result l e p.width.count;

@@ -1,5 +1,5 @@
 use Rattle.std.proofs.Common.{sym}
-use Rattle.panel.proofs.Rows.{length_row}
+use Rattle.panel.specs.Lengths.{length_row}
 use Rattle.panel.proofs.width.Width.count.Goals as goal
 
 pub returns : goal.returns
