@@ -4,8 +4,5 @@ use Rattle.planner.specs.Errands.{Says}
 use Rattle.planner.proofs.ErrandsJudged.{says_so}
 use Rattle.planner.proofs.judged.judge.Goals as goal
 
-pub returns : goal.returns
-returns c = record {
-  answer = c.judged.ensures;
-  says = subst (λ (j : Judgement). Says j c.args.errand.now) (sym c.judged.ensures) (says_so c.args.errand.now);
-}
+pub returns-clause-says : goal.returns-clause-says
+returns-clause-says c = subst (λ (j : Judgement). Says j c.args.errand.now) (sym c.judged.ensures) (says_so c.args.errand.now)

@@ -3,12 +3,8 @@ use Rattle.tasks.proofs.Bridge.{book_within, setting_length}
 use Rattle.planner.proofs.Judging.{says_so}
 use Rattle.planner.proofs.planning.plan.Goals as goal
 
-pub returns : goal.returns
-returns c =
+pub returns-clause-says : goal.returns-clause-says
+returns-clause-says c =
     let b = c.args.book.now in
-    record {
-      answer = c.planned.ensures;
-      says =
-          says_so (rules_of b) (book_within b) (setting_of b.latches c.args.start) (setting_length b.latches c.args.start) c.args.named c.args.wanted _
-          c.planned.ensures;
-    }
+    says_so (rules_of b) (book_within b) (setting_of b.latches c.args.start) (setting_length b.latches c.args.start) c.args.named c.args.wanted _
+    c.planned.ensures

@@ -32,9 +32,6 @@ returns-then-is_no_way c =
     new.0 _ _ (ap in_class? (sym new.1) ∙ sym c.if-not-is_in_class.ensures)
     (ap no_way? (sym new.1) ∙ ap (λ (t : NormalTask). no_way? (task_of t)) (sym c.of-recipes.ensures) ∙ sym c.if-is_no_way.ensures)
 
-pub of-requires : goal.of-requires
-of-requires c = ap (λ (t : NormalTask). in_class? (task_of t)) c.of-recipes.ensures ∙ sym c.if-not-is_in_class.ensures
-
 pub returns : goal.returns
 returns c =
     let b = c.args.book.now in

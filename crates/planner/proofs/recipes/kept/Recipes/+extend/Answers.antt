@@ -10,7 +10,7 @@ use Rattle.table.specs.Items.{items}
 use Rattle.planner.specs.Laid.{rest, size}
 use Rattle.planner.specs.Made.{latch_at}
 use Rattle.planner.specs.RecipesKept.{kept_in?}
-use Rattle.planner.proofs.Extending.{extends_empty, extends_end, extends_out, extends_plain, extends_split, size_next, size_others, size_sides}
+use Rattle.planner.proofs.Extending.{extends_empty, extends_end, extends_out, extends_plain, extends_split, size_others, size_sides}
 use Rattle.planner.proofs.Rests.{latch_within}
 use Rattle.planner.specs.Orders.{order_of}
 use Rattle.planner.proofs.recipes.kept.Recipes.+extend.Goals as goal
@@ -22,11 +22,6 @@ returns-then-is_empty t c =
       | then-is_empty-via-then-is_empty w ↦ extends_empty c.args.self.now c.args.set c.args.from (items c.args.entries.now) (c.is_empty.ensures.0 w.if-is_empty.true)
       | then-is_empty-via-else-is_empty+then-from-len w ↦ extends_end c.args.self.now c.args.set c.args.from (items c.args.entries.now) (omega (arith, w.if-from-len.true, w.len.ensures))
     ]
-
-pub extend-requires : goal.extend-requires
-extend-requires t c =
-    let more = size_next c.args.self.now c.args.set c.args.from (omega (arith, c.if-from-len.false, c.len.ensures)) c.latch-latch.result c.latch-latch.ensures in
-    (omega (arith, c.decreases, c.if-from-len.false, c.len.ensures), (omega (arith, c.if-from-len.false, c.len.ensures), omega (arith, c.requires.1)))
 
 pub returns-then-not-contains : goal.returns-then-not-contains
 returns-then-not-contains t c =

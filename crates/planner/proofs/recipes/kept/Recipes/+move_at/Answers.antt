@@ -87,11 +87,3 @@ returns-in-Err-seek t c =
     sym (c.in-Err-seek.ensures [])
     ∙ lower s i r c.in-Err.rest _ c.if-rest-eq0.false refl ∙ sym (c.in-Err.ensures (behind s i r))
     ∙ whole s i c.requires.0 c.args.to c.args.k c.requires.1 r c.in_ok-recipe.ensures
-
--- without a recipe there is no place
-pub returns-in_err-recipe : goal.returns-in_err-recipe
-returns-in_err-recipe t c =
-    let s = c.args.self.now in
-    let u = latch_at s.order c.args.place in
-    let none : 0 ≡ (recipe_at c.args.to s.table u).length = ap (λ (o : Option Recipe). (unwrap_or o no_recipe).length) c.in_err-recipe.ensures in
-    absurd (omega (arith, c.requires.1, s.counts c.args.to u))

@@ -2,7 +2,7 @@ use Rattle.std.proofs.Common.{◌≡◌, ℕ, ◌<◌, true, false, length, get_
 use Rattle.words.specs.Sets.{has}
 use Rattle.planner.specs.Lookup.{nth, in_turn}
 use Rattle.planner.specs.Made.{recipe_numbers, latch_at}
-use Rattle.planner.proofs.Seeking.{turns, turn_over, turn_inside, turn_behind, turns_over}
+use Rattle.planner.proofs.Seeking.{turns, turn_over, turn_inside, turn_behind}
 use Rattle.planner.proofs.recipes.kept.Recipes.seek.Goals as goal
 use Rattle.planner.proofs.recipes.kept.Recipes.seek.Goals.{then-contains+else-rest-length, else-contains}
 
@@ -48,12 +48,3 @@ loop-turn-preserved c =
           (subst (λ (v : ℕ). has c.args.helpers v ≡ false) same (sym (w.if-contains.ensures ∙ ap (has c.args.helpers) c.latch.ensures)))
           ∙ ap (nth _) (sym w.rest-is)
     ]
-
-pub returns : goal.returns
-returns c =
-    let s = c.args.self.now in
-    let x = c.args.to in
-    λ ys.
-    c.loop-turn.invariant ys
-    ∙ turns_over s.task x c.args.helpers (in_turn s.order x c.args.placed) c.loop-turn.turn
-    (omega (arith, turns s.order c.args.placed c.requires x, c.loop-turn-test.false)) ys c.loop-turn.rest

@@ -53,16 +53,12 @@ loop-latch-preserved c =
       )
     ]
 
-pub returns : goal.returns
-returns c =
+pub returns-clause-counted : goal.returns-clause-counted
+returns-clause-counted c v m helps =
     let s = c.args.self.now in
     let o = s.order.now in
     let first = ap (take s.placed) c.as_slice.ensures.items in
     let many : length (take s.placed c.as_slice.result.now) ≡ s.placed = ap (λ (us : List ℕ). length us) first ∙ length-take-le s.placed (order_of o) s.room in
     let all : c.loop-latch.latch-index ≡ s.placed = omega (arith, c.loop-latch-test.false, many) in
-    record {
-      short = subst (λ (i : ℕ). c.loop-latch.length ≤ 3 ^ i) all c.loop-latch.invariant.0;
-      counted = λ v m helps.
-          subst (λ (i : ℕ). Counted (order_of o) s.table c.args.helpers i c.loop-latch.length) all c.loop-latch.invariant.1 _ v m _ helps
-          (lengths_of s.task.now o s.placed s.table s.tabled);
-    }
+    subst (λ (i : ℕ). Counted (order_of o) s.table c.args.helpers i c.loop-latch.length) all c.loop-latch.invariant.1 _ v m _ helps
+    (lengths_of s.task.now o s.placed s.table s.tabled)
