@@ -4,7 +4,7 @@ use mathlib.Core.Path.{fun_ext}
 use mathlib.Core.Option.{none, some}
 use Rattle.std.proofs.lemmas.List.{append-nil, length-map, length-take-le, length_push, get_or-take, get_or_read, map_push, map_more}
 use Rattle.words.specs.declared.LatchSet.{LatchSet}
-use Rattle.words.specs.Sets.{most_latches, has, Below}
+use Rattle.words.specs.Sets.{has, Below}
 use Rattle.book.specs.declared.book.Book.{Book}
 use Rattle.book.specs.declared.moves.Move.{Move as BookMove}
 use Rattle.book.specs.declared.partial.PartialSetting.{PartialSetting}
@@ -90,10 +90,6 @@ book_read b i m l e = (
 
     inside : i < b.count
     inside = omega (arith, book_count b)
-
--- its latch is one that there can be
-pub read_latch : (b : Book) (i : ℕ) (m : BookMove) → Read b i m → m.latch < most_latches
-read_latch b i m (l, e) = subst (λ (x : BookMove). x.latch < most_latches) (sym e) (omega (arith, b.own i l, b.few))
 
 -- the move in normal form, for a book of any number of latches that it speaks of
 abbrev InNormalForm : LatchSet → ℕ → BookMove → NormalMove → Type 0

@@ -1,15 +1,12 @@
 use Rattle.std.proofs.Common.{ap, ◌∙◌, arith}
 use Rattle.tables.specs.Items.{items}
-use Rattle.tasks.proofs.NormalFormTasks.{Brought, Read, book_read, read_latch, turn_dropped, turn_kept, all_brought, brought_task, brought_well, place_own, place_within, place_asks_own, place_wanted}
+use Rattle.tasks.proofs.NormalFormTasks.{Brought, Read, book_read, turn_dropped, turn_kept, all_brought, brought_task, brought_well, place_own, place_within, place_asks_own, place_wanted}
 use Rattle.tasks.proofs.normal.normal_task.Goals as goal
 use Rattle.tasks.proofs.normal.normal_task.Goals.{After-m-item, After-normal_asks, in-Some, in_default}
 
 -- the move of this turn stands in the book
 read : (c : After-m-item) → Read c.args.book.now c.loop-number.number c.m-item.result
 read c = book_read c.args.book.now c.loop-number.number c.m-item.result c.loop-number-test.true c.m-item.is
-
-pub normal_move-requires : goal.normal_move-requires
-normal_move-requires c = read_latch c.args.book.now c.loop-number.number c.m-item.result (read c)
 
 pub loop-number-preserved : goal.loop-number-preserved
 loop-number-preserved c =
