@@ -4,10 +4,9 @@ use std::fmt;
 
 /// The name of a latch of the book; a latch that the book lacks has none.
 pub(crate) fn name(book: &Book, latch: u8) -> &str {
-    let Some(name) = book.names.get(usize::from(latch)) else {
-        return "";
-    };
-    std::str::from_utf8(name.as_bytes()).unwrap_or("")
+    book.names
+        .get(usize::from(latch))
+        .map_or("", |name| name.as_str())
 }
 
 /// The items that a partial setting stands for, `NAME:0` or `NAME:1`, with a space between two.
