@@ -73,7 +73,7 @@ fn print_latches(rt: &HostRuntime, errand: &Errand) -> anyhow::Result<()> {
 /// Prints each move: its number, its latch with the position that it throws it to, and what it asks.
 fn print_moves(rt: &HostRuntime, book: &Book) -> anyhow::Result<()> {
     println!(rt; "moves={}", book.count)?;
-    for (i, m) in book.moves[0..book.count as usize].iter().enumerate() {
+    for (i, m) in book.moves().iter().enumerate() {
         let name = name(book, m.latch);
         let to = u8::from(m.to);
         let when = Items {

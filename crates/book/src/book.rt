@@ -1,5 +1,5 @@
 //! Books.
-ghost use Rattle.std.specs.Prelude.{◌≡◌, ℕ, ◌<◌, ◌≤◌, true, false, [], length};
+ghost use Rattle.std.specs.Prelude.{◌≡◌, ℕ, ◌<◌, ◌≤◌, true, false, [], length, take};
 ghost use Rattle.words.specs.Sets.{Below, most_latches};
 ghost use Rattle.book.specs.Limits.{most_moves};
 ghost use Rattle.book.specs.Names.{well_named, same};
@@ -31,4 +31,13 @@ pub struct Book {
     ghost asks: { (k : ℕ) → k < count → Below latches (move_at moves k).when.named },
     ghost no_names: { (k : ℕ) → latches ≤ k → name_at names k ≡ [] },
     ghost no_moves: { (k : ℕ) → count ≤ k → move_at moves k ≡ no_move },
+}
+
+impl Book {
+    /// The moves of the book, by number.
+    pub fn moves(&self) -> &[Move]
+        ensures { result.now ≡ take self.now.count self.now.moves }
+    {
+        &self.moves[..self.count as usize]
+    }
 }

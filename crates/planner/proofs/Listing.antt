@@ -1,7 +1,7 @@
 -- The entries of a route, and its moves entry by entry.
-use Rattle.std.proofs.Common.{◌≡◌, ℕ, ◌+◌, ◌-◌, ◌*◌, ◌^◌, ◌<◌, ◌≤◌, Bool, true, List, [], ◌∷◌, ◌++◌, map, length, get_or, take, drop, None, sym, refl, ap, ◌∙◌, arith, length-append, length-drop}
+use Rattle.std.proofs.Common.{◌≡◌, ℕ, ◌+◌, ◌-◌, ◌*◌, ◌^◌, ◌<◌, ◌≤◌, Bool, true, List, [], ◌∷◌, ◌++◌, map, length, get_or, take, drop, sym, refl, ap, ◌∙◌, arith, length-append, length-drop}
 use lib.ListN.{length-map}
-use Rattle.std.proofs.lemmas.List.{map-append, drop_more, drop_all, take_more, flat_map_more}
+use Rattle.std.proofs.lemmas.List.{map-append, drop_more, take_more, flat_map_more}
 use Rattle.std.proofs.lemmas.List.Folds.{length-flat_map-take}
 use Rattle.std.proofs.lemmas.Bool.{eq-eqb}
 use Rattle.std.proofs.lemmas.Nat.Bits.{bit_at_ones}
@@ -88,10 +88,6 @@ module _ (f : Entry → List ℕ) (es : List Entry) (i : ℕ) (l : i < length es
   pub left_behind : (k m q : ℕ) → m ≡ length (f (get_or es i no_entry)) → m ≤ k → q ≡ k - m →
       nth (flat_map f (drop i es)) k ≡ nth (flat_map f (drop (i + 1) es)) q
   left_behind k m q c h p = ap (λ (ks : List ℕ). nth ks k) left_moves ∙ nth_behind (f (get_or es i no_entry)) _ k m q c h p
-
--- behind them nothing is left
-pub left_none : (f : Entry → List ℕ) (es : List Entry) (i : ℕ) → length es ≤ i → (k : ℕ) → nth (flat_map f (drop i es)) k ≡ None
-left_none f es i l k = ap (λ (xs : List Entry). nth (flat_map f xs) k) (drop_all i es l)
 
 -- a route in the class is short enough for a 64-bit length
 pub route_fits : (t : NormalTask) → in_class? (task_of t) ≡ true → length (route_numbers t) < 2 ^ 64

@@ -1,5 +1,5 @@
 -- What stands at a place of lists joined together.
-use Rattle.std.proofs.Common.{◌≡◌, ℕ, zero, suc, ◌-◌, ◌<◌, ◌≤◌, List, [], ◌∷◌, ◌++◌, length, None, refl, ap, ◌∙◌, arith}
+use Rattle.std.proofs.Common.{◌≡◌, ℕ, zero, suc, ◌-◌, ◌<◌, ◌≤◌, List, [], ◌∷◌, ◌++◌, length, refl, ap, ◌∙◌, arith}
 use Rattle.planner.specs.Lookup.{nth}
 
 pub nth_left : {A : Type 0} (xs ys : List A) (k : ℕ) → k < length xs → nth (xs ++ ys) k ≡ nth xs k
@@ -13,11 +13,6 @@ nth_right (x ∷ xs) ys zero l = absurd (omega arith)
 nth_right (x ∷ xs) ys (suc k) l =
     let e : k - length xs ≡ suc k - suc (length xs) = omega arith in
     nth_right xs ys k (omega arith) ∙ ap (nth ys) e
-
-pub nth_past : {A : Type 0} (xs : List A) (k : ℕ) → length xs ≤ k → nth xs k ≡ None
-nth_past [] k l = refl
-nth_past (x ∷ xs) zero l = absurd (omega arith)
-nth_past (x ∷ xs) (suc k) l = nth_past xs k (omega arith)
 
 -- the list behind a list whose length is known
 pub nth_behind : {A : Type 0} (xs ys : List A) (k n r : ℕ) → n ≡ length xs → n ≤ k → r ≡ k - n → nth (xs ++ ys) k ≡ nth ys r

@@ -1,6 +1,6 @@
 -- A recipe by its helpers: their recipes to 1, the move, and their recipes to 0; and seeking a place among them, turn by turn.
 use Rattle.std.proofs.Common.{◌≡◌, ℕ, ◌+◌, ◌-◌, ◌<◌, ◌≤◌, Bool, true, false, cond, List, [], ◌∷◌, ◌++◌, reverse, length, get_or, take, drop, sym, ap, ◌∙◌, inl, inr, append_assoc, append-nil, arith}
-use Rattle.std.proofs.lemmas.List.{map-append, reverse-append, reverse-reverse, length-reverse, length-take-le, get_or-reverse, get_or-take, drop_more, drop_all}
+use Rattle.std.proofs.lemmas.List.{map-append, reverse-append, reverse-reverse, length-reverse, length-take-le, get_or-reverse, get_or-take, drop_more}
 use Rattle.std.proofs.lemmas.Bool.{cases_Bool}
 use Rattle.words.specs.declared.LatchSet.{LatchSet}
 use Rattle.words.specs.Sets.{has}
@@ -109,8 +109,3 @@ module _ (t : NormalTask) (x : Bool) (s : LatchSet) (vs : List ℕ) (k : ℕ) (l
   pub turn_behind : (r n q : ℕ) → has s (get_or vs k 0) ≡ true → n ≡ length (recipe_numbers t x (get_or vs k 0)) → n ≤ r → q ≡ r - n →
       nth (helped t x s (drop k vs) ++ ys) r ≡ nth (helped t x s (drop (k + 1) vs) ++ ys) q
   turn_behind r n q e c h p = ap (λ (ks : List ℕ). nth ks r) (helping e) ∙ nth_behind (recipe_numbers t x (get_or vs k 0)) _ r n q c h p
-
--- behind the last turn
-pub turns_over : (t : NormalTask) (x : Bool) (s : LatchSet) (vs : List ℕ) (k : ℕ) → length vs ≤ k → (ys : List ℕ) (r : ℕ) →
-    nth (helped t x s (drop k vs) ++ ys) r ≡ nth ys r
-turns_over t x s vs k l ys r = ap (λ (us : List ℕ). nth (helped t x s us ++ ys) r) (drop_all k vs l)

@@ -3,7 +3,7 @@ mod entries;
 mod entry;
 mod tabled;
 
-ghost use Rattle.std.specs.Prelude.{◌≡◌, ℕ, ◌+◌, ◌*◌, ◌^◌, ◌<◌, ◌≤◌, true, ◌&&◌, [], length as length_of};
+ghost use Rattle.std.specs.Prelude.{◌≡◌, ℕ, ◌+◌, ◌*◌, ◌^◌, ◌<◌, ◌≤◌, true, [], length as length_of};
 ghost use Rattle.std.specs.List.{flat_map};
 ghost use Rattle.tables.specs.Items.{items};
 ghost use Rattle.words.specs.Sets.{has};
@@ -24,13 +24,6 @@ pub use tabled::Route;
 use tables::Table;
 use tasks::{NormalTask, is_asked};
 use words::LatchSet;
-
-/// The latches that are in both sets.
-fn both(one: LatchSet, other: LatchSet) -> LatchSet
-    ensures { (j : ℕ) → has result j ≡ (has one j && has other j) }
-{
-    one.difference(one.difference(other))
-}
 
 /// Puts one more entry behind the others, if `put`.
 fn push_if(entries: &mut Entries, put: bool, entry: Entry)
@@ -66,8 +59,8 @@ impl Recipes {
             push_if(entries, is_asked(self.task.want, true, latch), to_one);
             return;
         }
-        let zero = both(others, self.task.side(false, latch));
-        let one = both(others, self.task.side(true, latch));
+        let zero = others.intersection(self.task.side(false, latch));
+        let one = others.intersection(self.task.side(true, latch));
         let kept = self.table.recipe(latch, true).is_some();
         self.extend(entries, from + 1, others.difference(zero).difference(one));
         self.extend(entries, from + 1, zero);

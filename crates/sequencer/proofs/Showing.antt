@@ -1,12 +1,12 @@
 -- What a panel shows of its setting: the setting itself where it fits, and whether a move is legal there.
-use Rattle.std.proofs.Common.{◌≡◌, ℕ, Bool, true, false, cond, not, ◌&&◌, length, get_or, Decides, sym, refl, ap, ◌∙◌, inl, inr, arith}
+use Rattle.std.proofs.Common.{◌≡◌, ℕ, Bool, true, false, cond, ◌&&◌, length, get_or, Decides, sym, refl, ap, ◌∙◌, inl, inr, arith}
 use mathlib.Core.Bool.{beq}
 use mathlib.Core.Option.{none, some}
 use Rattle.std.proofs.lemmas.List.{ext_get_or}
 use Rattle.std.proofs.lemmas.Bool.{both_ways, cases_Bool}
 use Rattle.words.specs.declared.LatchSet.{LatchSet}
 use Rattle.words.specs.Bit.{set?}
-use Rattle.words.specs.Sets.{has, has_minus, Below}
+use Rattle.words.specs.Sets.{has, has_both, Below}
 use Rattle.words.proofs.Members.{set_ext}
 use Rattle.book.specs.declared.partial.PartialSetting.{PartialSetting}
 use Rattle.theory.specs.Searches.{all_below}
@@ -39,25 +39,17 @@ met_is p u b = go (has p.named u) (has p.ones u) b
 
 -- the latches that are named and at 1 are those asked to be at 1 just when all stand as asked
 pub holds_met :
-    (p : PartialSetting) (raised low ones : LatchSet) → ((j : ℕ) → has low j ≡ has_minus p.named raised j) →
-    ((j : ℕ) → has ones j ≡ has_minus p.named low j) → (b : Bool) → Decides b (ones.word ≡ p.ones.word) →
+    (p : PartialSetting) (raised ones : LatchSet) → ((j : ℕ) → has ones j ≡ has_both p.named raised j) → (b : Bool) → Decides b (ones.word ≡ p.ones.word) →
     (n : ℕ) (s : Setting) → ((j : ℕ) → has raised j ≡ get_or s j false) → Below n p.named →
     b ≡ all_below (λ u. met? (asks_of p u) (get_or s u false)) n
-holds_met p raised low ones lows highs b d n s up below = bool_ext b _ all each
+holds_met p raised ones highs b d n s up below = bool_ext b _ all each
   where
     test : ℕ → Bool
     test u = met? (asks_of p u) (get_or s u false)
 
-    both : (a x y : Bool) → y ≡ (a && not (a && not x)) → y ≡ (a && x)
-    both true true y e = e
-    both true false y e = e
-    both false x y e = e
-
     -- named and at 1
     high : (j : ℕ) → has ones j ≡ (has p.named j && get_or s j false)
-    high j =
-        both (has p.named j) (get_or s j false) (has ones j)
-        (highs j ∙ ap (λ (x : Bool). has p.named j && not x) (lows j ∙ ap (λ (x : Bool). has p.named j && not x) (up j)))
+    high j = highs j ∙ ap (λ (x : Bool). has p.named j && x) (up j)
 
     from_equal : (m o x : Bool) → (o ≡ true → m ≡ true) → (m && x) ≡ o → cond m (beq x o) true ≡ true
     from_equal true true true w e = refl

@@ -2,7 +2,7 @@
 --   more? state n            a run along a route of n moves is not at its end
 --   progress_in state ks     how far the run along ks is
 --   thrown_in state          how many moves of the run are thrown, if one is under way
---   admitted state call      how many moves of the run are thrown, if the call is one for this state; else why it is not
+--   admitted state call      how many moves of the run are thrown, 0 at rest, if the call is one for this state; else why it is not
 use Rattle.std.specs.Prelude.{ℕ, Bool, true, List, nat_lt, Some, None, Option, Ok, Err, Result}
 use Rattle.rules.specs.declared.refusal.Refusal.{Refusal}
 use Rattle.rules.specs.declared.refusal.Refusal.TheVariants as refusal

@@ -31,7 +31,7 @@ fn holds(asked: PartialSetting, raised: LatchSet) -> bool
     ensures { (n : ℕ) (s : Setting) → ((j : ℕ) → has raised j ≡ slice_index_or s j false) → Below n asked.named
         → result ≡ all_below (λ u. met? (asks_of asked u) (slice_index_or s u false)) n }
 {
-    asked.named.difference(asked.named.difference(raised)) == asked.ones
+    asked.named.intersection(raised) == asked.ones
 }
 
 /// Whether the move is legal: all that it asks holds, and its latch is not yet at its target.
@@ -67,7 +67,7 @@ impl Machine {
         }
     }
 
-    /// How many moves of the run are thrown, if the call is one for what is being done.
+    /// How many moves of the run are thrown, 0 while idle, if the call is one for what is being done.
     fn admit(&self, call: Call) -> Result<u64, Refusal>
         ensures { result ≡ admitted self.now.state call }
     {

@@ -1,5 +1,5 @@
 -- The moves of a book brought to normal form one after another, and the task that they make.
-use Rattle.std.proofs.Common.{◌≡◌, ℕ, zero, suc, ◌+◌, ◌-◌, ◌<◌, ◌≤◌, Bool, true, false, cond, not, List, [], ◌∷◌, ◌++◌, map, length, get_or, take, sym, refl, ap, ◌∙◌, subst, inl, inr, arith}
+use Rattle.std.proofs.Common.{◌≡◌, ℕ, zero, suc, ◌+◌, ◌<◌, ◌≤◌, Bool, true, false, cond, not, List, [], ◌∷◌, ◌++◌, map, length, get_or, take, sym, refl, ap, ◌∙◌, subst, inl, inr, arith}
 use mathlib.Core.Path.{fun_ext}
 use mathlib.Core.Option.{none, some}
 use Rattle.std.proofs.lemmas.List.{append-nil, length-map, length-take-le, length_push, get_or-take, get_or_read, map_push, map_more}
@@ -71,25 +71,18 @@ abbrev pub Read : Book → ℕ → BookMove → Type 0
 Read b i m = (i < b.count) × (m ≡ move_at b.moves i)
 
 -- the moves of the book are as many as it counts
-book_count : (b : Book) → length (take (b.count - 0) b.moves) ≡ b.count
-book_count b =
-    let all : b.count - 0 ≡ b.count = omega arith in
-    ap (λ (k : ℕ). length (take k b.moves)) all ∙ length-take-le b.count b.moves (omega (arith, b.room, b.move_places))
+book_count : (b : Book) → length (take b.count b.moves) ≡ b.count
+book_count b = length-take-le b.count b.moves (omega (arith, b.room, b.move_places))
 
 pub book_read :
-    (b : Book) (i : ℕ) (m : BookMove) → i < length (take (b.count - 0) b.moves) → m ≡ get_or (take (b.count - 0) b.moves) i m → Read b i m
-book_read b i m l e = (
-  inside,
-  get_or_read (take (b.count - 0) b.moves) i m l e no_move
-      ∙ ap (λ (k : ℕ). get_or (take k b.moves) i no_move) all
-      ∙ get_or-take b.count b.moves i no_move inside,
-)
-  where
-    all : b.count - 0 ≡ b.count
-    all = omega arith
-
-    inside : i < b.count
-    inside = omega (arith, book_count b)
+    (b : Book) (ms : List BookMove) (i : ℕ) (m : BookMove) → ms ≡ take b.count b.moves → i < length ms → m ≡ get_or ms i m → Read b i m
+book_read b ms i m h l e =
+    let inside : i < b.count = omega (arith, book_count b, ap (λ (ks : List BookMove). length ks) h) in (
+      inside,
+      get_or_read ms i m l e no_move
+          ∙ ap (λ (ks : List BookMove). get_or ks i no_move) h
+          ∙ get_or-take b.count b.moves i no_move inside,
+    )
 
 -- the move in normal form, for a book of any number of latches that it speaks of
 abbrev InNormalForm : LatchSet → ℕ → BookMove → NormalMove → Type 0
@@ -147,9 +140,9 @@ module _ (b : Book) (start : LatchSet) (i : ℕ) (moves : List NormalMove) (so_f
             ∙ ap (λ (j : ℕ). normal_move (setting_of b.latches start) j (rule_of (move_at b.moves i))) numbered
 
   -- behind the last, all moves of the book are brought to normal form
-  pub all_brought : length (take (b.count - 0) b.moves) ≤ i → i ≤ length (take (b.count - 0) b.moves) → Brought b start b.count moves
-  all_brought l h =
-      let end : i ≡ b.count = omega (arith, book_count b) in
+  pub all_brought : (ms : List BookMove) → ms ≡ take b.count b.moves → length ms ≤ i → i ≤ length ms → Brought b start b.count moves
+  all_brought ms e l h =
+      let end : i ≡ b.count = omega (arith, book_count b, ap (λ (ks : List BookMove). length ks) e) in
       subst (λ (k : ℕ). Brought b start k moves) end so_far
 
 -- all moves, and a want that is brought to normal form, are the task, which is well-formed

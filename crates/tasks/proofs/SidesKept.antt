@@ -2,9 +2,7 @@
 use Rattle.std.proofs.Common.{◌≡◌, ℕ, ◌<◌, Bool, true, false, not, ◌&&◌, ◌||◌, eqb, Decides, sym, refl, ap, ◌∙◌, inl, inr, arith}
 use Rattle.std.proofs.lemmas.Bool.{cases_Bool, and_parts, and_from, or_cases, or_left, or_right, not-true, not_from_false, eqb-true, eq-eqb}
 use Rattle.words.specs.declared.LatchSet.{LatchSet}
-use Rattle.words.specs.Bit.{set?}
-use Rattle.words.specs.Sets.{has, has_minus, has_either}
-use Rattle.words.proofs.Members.{set_ext}
+use Rattle.words.specs.Sets.{has, has_either, has_both, Empty}
 use Rattle.graph.specs.Walks.{Exactly, Walk, one, step, Reached}
 use Rattle.theory.specs.Searches.{some_below, all_below}
 use Rattle.theory.specs.Tasks.{Task, WellFormed}
@@ -70,32 +68,26 @@ module _ (t : Task) (well : WellFormed t) where
 
   -- sides that share no latch split
   pub sides_split :
-      (v : ℕ) (zeros ones left : LatchSet) → ((u : ℕ) → has zeros u ≡ side? t false v u) → ((u : ℕ) → has ones u ≡ side? t true v u) →
-      ((u : ℕ) → has left u ≡ has_minus zeros ones u) → (r : Bool) → Decides r (left.word ≡ zeros.word) → r ≡ splitting? t v
+      (v : ℕ) (zeros ones both : LatchSet) → ((u : ℕ) → has zeros u ≡ side? t false v u) → ((u : ℕ) → has ones u ≡ side? t true v u) →
+      ((u : ℕ) → has both u ≡ has_both zeros ones u) → (r : Bool) → Decides r (Empty both) → r ≡ splitting? t v
   unfolding splitting?
-  sides_split v zeros ones left p q h r same_word = bool_ext _ _ (λ e. splits (same_word.0 e)) (λ k. same_word.1 (equal k))
+  sides_split v zeros ones both p q h r none = bool_ext _ _ (λ e. splits (none.0 e)) (λ k. none.1 (empty k))
     where
       shared : ℕ → Bool
       shared u = side? t false v u && side? t true v u
 
-      -- a latch of both sides is not left
-      splits : left.word ≡ zeros.word → all_below (λ u. not (shared u)) t.width ≡ true
+      splits : Empty both → all_below (λ u. not (shared u)) t.width ≡ true
       splits e = all_below_from (λ u. not (shared u)) t.width (λ u l. not_from_false (shared u) (apart u))
         where
-          kept : (u : ℕ) → has left u ≡ has zeros u
-          kept u = ap (λ (w : ℕ). set? w u) e
-
+          -- no latch is on both sides
           apart : (u : ℕ) → shared u ≡ false
-          apart u = grind (arith, p u, q u, h u, kept u)
+          apart u = grind (arith, p u, q u, h u, e u)
 
-      equal : all_below (λ u. not (shared u)) t.width ≡ true → left.word ≡ zeros.word
-      equal k = ap (λ (s : LatchSet). s.word) (set_ext left zeros same)
-        where
-          same : (u : ℕ) → has left u ≡ has zeros u
-          same u =
-              elim (cases_Bool (side? t false v u)) [
-                | inl e ↦
-                    let n = not-true (shared u) (all_below_true (λ w. not (shared w)) t.width u k (side_ends false v u e)) in
-                    grind (arith, p u, q u, h u, e, n)
-                | inr e ↦ grind (arith, p u, q u, h u, e)
-              ]
+      empty : all_below (λ u. not (shared u)) t.width ≡ true → Empty both
+      empty k u =
+          elim (cases_Bool (side? t false v u)) [
+            | inl e ↦
+                let n = not-true (shared u) (all_below_true (λ w. not (shared w)) t.width u k (side_ends false v u e)) in
+                grind (arith, p u, q u, h u, e, n)
+            | inr e ↦ grind (arith, p u, q u, h u, e)
+          ]

@@ -108,7 +108,7 @@ impl NormalTask {
         ensures { result ≡ splitting? (task_of self.now) latch }
     {
         let zero = self.side(false, latch);
-        zero.difference(self.side(true, latch)) == zero
+        zero.intersection(self.side(true, latch)).is_empty()
     }
 
     /// Whether `latch` is static, reversible or splitting.

@@ -67,7 +67,7 @@ fn normal_task(book: &Book, start: LatchSet, want: PartialSetting) -> NormalTask
     ensures { task_of result ≡ task (rules_of book.now) (setting_of book.now.latches start) (asks_of want) }
 {
     let mut moves = Table::new(NO_MOVE);
-    for (number, m) in book.moves[0..book.count as usize].iter().enumerate() {
+    for (number, m) in book.moves().iter().enumerate() {
         if let Some(normal) = normal_move(number as u8, m, start) {
             moves.push(normal);
         }

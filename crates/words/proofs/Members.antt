@@ -51,6 +51,13 @@ members_either v w j = ap (λ (x : ℕ). eqb x 1) (bit_at_or v w j) ∙ larger (
     larger : (x y : ℕ) → x < 2 → y < 2 → eqb (max x y) 1 ≡ (eqb x 1 || eqb y 1)
     larger x y a b = grind (arith, nat_tests)
 
+-- the members of &
+pub members_both : (v w j : ℕ) → set? (bit_and v w) j ≡ (set? v j && set? w j)
+members_both v w j = ap (λ (x : ℕ). eqb x 1) (bit_at_and v w j) ∙ smaller (bit v j) (bit w j) (bit_at-lt v j) (bit_at-lt w j)
+  where
+    smaller : (x y : ℕ) → x < 2 → y < 2 → eqb (min x y) 1 ≡ (eqb x 1 && eqb y 1)
+    smaller x y a b = grind (arith, nat_tests)
+
 -- the members of & !
 pub members_minus : (v w j : ℕ) → v < 2 ^ 32 → w < 2 ^ 32 → set? (bit_and v (2 ^ 32 - 1 - w)) j ≡ (set? v j && not (set? w j))
 members_minus v w j a b = ap (λ (x : ℕ). eqb x 1) (minus (dec_lt j 32)) ∙ left (bit v j) (bit w j) (bit_at-lt v j) (bit_at-lt w j)

@@ -3,8 +3,7 @@
 --   set? w i             bit i of w is 1
 --   AllClear w           no bit of w is set
 --   AllClearFrom n w     no bit of w from n on is set
---   LowestBit w o        o is the lowest bit of w that is set, if there is one
-use Rattle.std.specs.Prelude.{◌≡◌, ℕ, ◌/◌, ◌%◌, ◌^◌, ◌<◌, Bool, true, false, Option, MatchOption, ◌==◌}
+use Rattle.std.specs.Prelude.{◌≡◌, ℕ, ◌/◌, ◌%◌, ◌^◌, ◌<◌, Bool, true, false, ◌==◌}
 
 -- bit i of w
 abbrev pub bit : ℕ → ℕ → ℕ
@@ -21,7 +20,3 @@ AllClear w = (j : ℕ) → set? w j ≡ false
 -- each bit that is set is one of the first n
 abbrev pub AllClearFrom : ℕ → ℕ → Type 0
 AllClearFrom n w = (j : ℕ) → set? w j ≡ true → j < n
-
--- the lowest bit that is set, one of 32: no bit before it is
-abbrev pub LowestBit : ℕ → Option ℕ → Type 0
-LowestBit w o = MatchOption o (AllClear w) (λ i. (set? w i ≡ true) × ((j : ℕ) → j < i → set? w j ≡ false) × (i < 32))

@@ -6,6 +6,7 @@
 --   has_without s i   the members of s but latch i
 --   has_put s i b     the one if b, else the other
 --   has_either s t    the members of s and of t
+--   has_both s t      the members of s that are members of t
 --   has_minus s t     the members of s but those of t
 --   Empty s           no latch is in s
 --   Below n s         each latch of s is one of the first n
@@ -41,6 +42,10 @@ has_put s i b j = cond b (has_with s i j) (has_without s i j)
 -- latch j is in one of the sets
 abbrev pub has_either : LatchSet → LatchSet → ℕ → Bool
 has_either s t j = has s j || has t j
+
+-- latch j is in both sets
+abbrev pub has_both : LatchSet → LatchSet → ℕ → Bool
+has_both s t j = has s j && has t j
 
 -- latch j is in the one set and not in the other
 abbrev pub has_minus : LatchSet → LatchSet → ℕ → Bool

@@ -2,7 +2,7 @@
 #![tactic(auto)]
 
 ghost use Rattle.std.specs.Prelude.{◌≡◌, ℕ, ◌<◌, ◌≤◌, false, Decides};
-ghost use Rattle.words.specs.Sets.{most_latches, has, has_with, has_without, has_put, has_either, has_minus, Empty, Below, Lowest};
+ghost use Rattle.words.specs.Sets.{most_latches, has, has_with, has_without, has_put, has_either, has_both, has_minus, Empty, Below, Lowest};
 
 /// How many latches there can be.
 pub const MOST_LATCHES: u8 = 32;
@@ -37,7 +37,7 @@ impl LatchSet {
 
     /// The latches below `n` at which the test is true.
     pub fn from_fn<F: Fn(u8) -> bool>(n: u8, test: F) -> LatchSet
-        requires { (j : ℕ) → j < n → F.pre test j }
+        requires { (j : ℕ) → j < n → j < most_latches → F.pre test j }
         ensures tested { (j : ℕ) → j < n → j < most_latches → F.post test j (has result j) }
         ensures none { (j : ℕ) → n ≤ j → has result j ≡ false }
     {
@@ -96,6 +96,15 @@ impl LatchSet {
     {
         LatchSet {
             word: self.word | other.word,
+        }
+    }
+
+    /// The latches that are in both sets.
+    pub fn intersection(self, other: LatchSet) -> LatchSet
+        ensures { (j : ℕ) → has result j ≡ has_both self other j }
+    {
+        LatchSet {
+            word: self.word & other.word,
         }
     }
 

@@ -5,5 +5,5 @@ use Rattle.sequencer.proofs.machine.holds.Goals as goal
 
 pub returns : goal.returns
 returns c =
-    holds_met c.args.asked c.args.raised c.difference.result c.difference-2.result c.difference.ensures c.difference-2.ensures c.eq.result
+    holds_met c.args.asked c.args.raised c.intersection.result c.intersection.ensures c.eq.result
     (λ t. eqb-true _ _ (sym c.eq.ensures ∙ t), λ h. c.eq.ensures ∙ eq-eqb _ _ h)

@@ -6,7 +6,7 @@ use Rattle.tasks.proofs.normal.normal_task.Goals.{After-m-item, After-normal_ask
 
 -- the move of this turn stands in the book
 read : (c : After-m-item) → Read c.args.book.now c.loop-number.number c.m-item.result
-read c = book_read c.args.book.now c.loop-number.number c.m-item.result c.loop-number-test.true c.m-item.is
+read c = book_read c.args.book.now c.moves-m-items.result.now c.loop-number.number c.m-item.result c.moves-m-items.ensures c.loop-number-test.true c.m-item.is
 
 pub loop-number-preserved : goal.loop-number-preserved
 loop-number-preserved c =
@@ -25,7 +25,7 @@ loop-number-preserved c =
 all : (c : After-normal_asks) → Brought c.args.book.now c.args.start c.args.book.now.count (items c.loop-number.moves)
 all c =
     let l = c.loop-number in
-    all_brought c.args.book.now c.args.start l.number (items l.moves) l.invariant c.loop-number-test.false l.auto.number-end
+    all_brought c.args.book.now c.args.start l.number (items l.moves) l.invariant c.moves-m-items.result.now c.moves-m-items.ensures c.loop-number-test.false l.auto.number-end
 
 pub invariant_of-result : goal.invariant_of-result
 invariant_of-result c =

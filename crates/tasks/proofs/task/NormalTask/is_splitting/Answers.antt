@@ -1,5 +1,3 @@
-use Rattle.std.proofs.Common.{sym, ◌∙◌}
-use Rattle.std.proofs.lemmas.Bool.{eqb-true, eq-eqb}
 use Rattle.tasks.specs.Tasks.{task_of}
 use Rattle.tasks.proofs.ClassFormed.{well_formed}
 use Rattle.tasks.proofs.SidesKept.{sides_split}
@@ -8,6 +6,5 @@ use Rattle.tasks.proofs.task.NormalTask.is_splitting.Goals as goal
 pub returns : goal.returns
 returns c =
     let t = c.args.self.now in
-    sides_split (task_of t) (well_formed t) c.args.latch c.side-zero.result c.side.result c.difference.result
-    c.side-zero.ensures c.side.ensures c.difference.ensures c.eq.result
-    (λ t. eqb-true _ _ (sym c.eq.ensures ∙ t), λ h. c.eq.ensures ∙ eq-eqb _ _ h)
+    sides_split (task_of t) (well_formed t) c.args.latch c.side-zero.result c.side.result c.intersection.result
+    c.side-zero.ensures c.side.ensures c.intersection.ensures c.is_empty.result c.is_empty.ensures

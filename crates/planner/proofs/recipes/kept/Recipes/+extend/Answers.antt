@@ -73,7 +73,7 @@ Sizes s set others neither zero one i =
     ≤ size (has others) (rest s.order (i + 1)))
 
 sizes : (t : ℕ) (c : After-difference-2 t) →
-    Sizes c.args.self.now c.args.set c.without-others.result c.difference-2.result c.both-zero.result c.both-one.result c.args.from
+    Sizes c.args.self.now c.args.set c.without-others.result c.difference-2.result c.intersection-zero.result c.intersection-one.result c.args.from
 sizes t c =
     let s = c.args.self.now in
     let l : c.args.from < length (order_of c.args.self.now.order) = omega (arith, c.if-from-len.false, c.len.ensures) in
@@ -81,11 +81,11 @@ sizes t c =
     let others = c.without-others.result in
     let v = c.latch-latch.result in (
       size_others s c.args.set c.args.from l c.latch-latch.result c.latch-latch.ensures inside others c.without-others.ensures,
-      size_sides s c.args.set c.args.from l c.latch-latch.result c.latch-latch.ensures inside others c.without-others.ensures c.both-zero.result c.both-one.result c.difference-2.result
+      size_sides s c.args.set c.args.from l c.latch-latch.result c.latch-latch.ensures inside others c.without-others.ensures c.intersection-zero.result c.intersection-one.result c.difference-2.result
           (splits s c.args.from l c.latch-latch.result c.latch-latch.ensures true c.if-not-contains-2.ensures)
-          (on s false v others c.side.result c.both-zero.result c.both-zero.ensures c.side.ensures)
-          (on s true v others c.side-2.result c.both-one.result c.both-one.ensures c.side-2.ensures)
-          (off others c.both-zero.result c.both-one.result c.difference.result c.difference-2.result c.difference.ensures c.difference-2.ensures),
+          (on s false v others c.side.result c.intersection-zero.result c.intersection-zero.ensures c.side.ensures)
+          (on s true v others c.side-2.result c.intersection-one.result c.intersection-one.ensures c.side-2.ensures)
+          (off others c.intersection-zero.result c.intersection-one.result c.difference.result c.difference-2.result c.difference.ensures c.difference-2.ensures),
     )
 
 pub extend-requires-2 : goal.extend-requires-2
@@ -128,10 +128,10 @@ returns t c =
       | then-kept w ↦ w.push_if-is ∙ w.is_asked-then-kept.ensures ∙ ap (λ (b : Bool). b && asks? false (asks_of s.task.want v)) (sym w.if-kept.true)
       | else-kept w ↦ w.push_if-is ∙ w.if-kept.false ∙ ap (λ (b : Bool). b && asks? false (asks_of s.task.want v)) (sym w.if-kept.false)
     ] in
-    extends_split s c.args.set c.args.from l c.latch-latch.result c.latch-latch.ensures (sym c.if-not-contains.ensures) others c.without-others.ensures c.both-zero.result
-    c.both-one.result c.difference-2.result (splits s c.args.from l c.latch-latch.result c.latch-latch.ensures true c.if-not-contains-2.ensures)
-    (on s false v others c.side.result c.both-zero.result c.both-zero.ensures c.side.ensures)
-    (on s true v others c.side-2.result c.both-one.result c.both-one.ensures c.side-2.ensures)
-    (off others c.both-zero.result c.both-one.result c.difference.result c.difference-2.result c.difference.ensures c.difference-2.ensures)
+    extends_split s c.args.set c.args.from l c.latch-latch.result c.latch-latch.ensures (sym c.if-not-contains.ensures) others c.without-others.ensures c.intersection-zero.result
+    c.intersection-one.result c.difference-2.result (splits s c.args.from l c.latch-latch.result c.latch-latch.ensures true c.if-not-contains-2.ensures)
+    (on s false v others c.side.result c.intersection-zero.result c.intersection-zero.ensures c.side.ensures)
+    (on s true v others c.side-2.result c.intersection-one.result c.intersection-one.ensures c.side-2.ensures)
+    (off others c.intersection-zero.result c.intersection-one.result c.difference.result c.difference-2.result c.difference.ensures c.difference-2.ensures)
     (items c.args.entries.now) _ _ _ _ _ _ _ (kept ∙ s.members true v) back c.extend-2.ensures c.extend-3.ensures c.push_if-2.ensures
     c.extend-4.ensures c.push_if-3.ensures
