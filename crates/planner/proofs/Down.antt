@@ -11,7 +11,7 @@ use Rattle.tasks.specs.Places.{move_at}
 use Rattle.tasks.specs.Tasks.{task_of}
 use Rattle.planner.specs.declared.recipes.kept.Recipes.{Recipes}
 use Rattle.planner.specs.Lookup.{helped, in_turn}
-use Rattle.planner.specs.Made.{numbers, recipe_numbers, latch_at, kept_place?, move_by, Opens}
+use Rattle.planner.specs.Made.{numbers, recipe_numbers, latch_at, kept_place?, move_by}
 use Rattle.planner.specs.RecipesKept.{before, recipe_at}
 use Rattle.planner.proofs.Seeking.{parts_numbers, in_order}
 use Rattle.planner.specs.Orders.{order_of}
@@ -28,12 +28,7 @@ module _ (s : Recipes) (i : ℕ) (l : i < length (order_of s.order)) where
   pub helpers_of : (x : Bool) → kept_place? s.task s.order x i ≡ true → (u : ℕ) →
       has (recipe_at x s.table (latch_at s.order i)).helpers u
       ≡ helper? (task_of s.task) (latch_at s.order i) (move_by s.task s.order s.table x i) u
-  helpers_of true h = s.helpers_up i (l, h)
-  helpers_of false h = s.helpers_down i (l, h)
-
-  opens_to : (x : Bool) → Opens x s.task s.order s.table
-  opens_to true = s.opens_up
-  opens_to false = s.opens_down
+  helpers_of x h = s.helpers x i (l, h)
 
   -- the moves of a kept recipe
   pub unrolled : (x : Bool) → kept_place? s.task s.order x i ≡ true →
@@ -43,7 +38,7 @@ module _ (s : Recipes) (i : ℕ) (l : i < length (order_of s.order)) where
       ∷ helped s.task false (recipe_at x s.table (latch_at s.order i)).helpers (in_turn s.order false i))
   unrolled x h =
       let helpers = (recipe_at x s.table (latch_at s.order i)).helpers in
-      opens_to x i (l, h)
+      s.opens x i (l, h)
       ∙ parts_numbers s.task (latch_at s.order i) (move_by s.task s.order s.table x i) helpers (helpers_of x h) (before (order_of s.order) i)
       ∙ ap (λ (vs : List ℕ). helped s.task true helpers (in_turn s.order true i)
       ++ ((move_at (items s.task.moves) (recipe_at x s.table (latch_at s.order i)).place).number ∷ helped s.task false helpers vs))

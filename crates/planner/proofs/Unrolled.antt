@@ -89,10 +89,10 @@ module _ (t : NormalTask) (order : Order) (table : RecipeTable) (ordered : Order
   pub within : Within t order table
   within x i h = (tabled.stands i h.0 x h.1).within
 
-  pub helpers : (x : Bool) → Helpers x t order table
+  pub helpers : Helpers t order table
   helpers x i h = (tabled.stands i h.0 x h.1).helps
 
-  pub opens : (x : Bool) → Opens x t order table
+  pub opens : Opens t order table
   unfolding kept_table
   opens x i h =
       let all = order_before (task_of t) (order_of order) ordered in

@@ -8,8 +8,8 @@
 --   Members t table                the recipes that are kept are those of the task
 --   Counts t table                 each recipe has the length of the one kept
 --   Within t order table           a kept recipe's move is one of the task
---   Helpers x t order table        the helpers of a kept recipe to x are those of its move
---   Opens x t order table          a kept recipe to x opens to its helpers' recipes to 1, its move, and their recipes to 0
+--   Helpers t order table          the helpers of a kept recipe are those of its move
+--   Opens t order table            a kept recipe opens to its helpers' recipes to 1, its move, and their recipes to 0
 use Rattle.std.specs.Prelude.{◌≡◌, ℕ, ◌<◌, Bool, true, List, map, length, slice_index}
 use Rattle.words.specs.Sets.{has}
 use Rattle.theory.specs.Tasks.{Move}
@@ -64,14 +64,14 @@ Within t order table =
     (x : Bool) (i : ℕ) → (i < length (order_of order)) × (kept_place? t order x i ≡ true) → (recipe_at x table (latch_at order i)).place < length (items t.moves)
 
 -- the helpers of recipes
-abbrev pub Helpers : Bool → NormalTask → Order → RecipeTable → Type 0
-Helpers x t order table =
-    (i : ℕ) → (i < length (order_of order)) × (kept_place? t order x i ≡ true) → (u : ℕ) →
+abbrev pub Helpers : NormalTask → Order → RecipeTable → Type 0
+Helpers t order table =
+    (x : Bool) (i : ℕ) → (i < length (order_of order)) × (kept_place? t order x i ≡ true) → (u : ℕ) →
     has (recipe_at x table (latch_at order i)).helpers u ≡ helper? (task_of t) (latch_at order i) (move_by t order table x i) u
 
 -- what recipes open to
-abbrev pub Opens : Bool → NormalTask → Order → RecipeTable → Type 0
-Opens x t order table =
-    (i : ℕ) → (i < length (order_of order)) × (kept_place? t order x i ≡ true) →
+abbrev pub Opens : NormalTask → Order → RecipeTable → Type 0
+Opens t order table =
+    (x : Bool) (i : ℕ) → (i < length (order_of order)) × (kept_place? t order x i ≡ true) →
     recipe_numbers t x (latch_at order i)
     ≡ numbers (opened (kept_table (task_of t)) (recipe_parts (task_of t) (latch_at order i) (move_by t order table x i) (before (order_of order) i)))

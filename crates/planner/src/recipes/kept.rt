@@ -21,8 +21,6 @@ pub(crate) struct Recipes {
     ghost members: { Members task table },
     ghost counts: { Counts task table },
     ghost within: { Within task order table },
-    ghost helpers_up: { Helpers true task order table },
-    ghost helpers_down: { Helpers false task order table },
-    ghost opens_up: { Opens true task order table },
-    ghost opens_down: { Opens false task order table },
+    ghost helpers: { Helpers task order table },
+    ghost opens: { Opens task order table },
 }

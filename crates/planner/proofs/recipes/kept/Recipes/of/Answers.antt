@@ -1,4 +1,4 @@
-use Rattle.std.proofs.Common.{true, false, ap, ◌∙◌, subst, length}
+use Rattle.std.proofs.Common.{ap, ◌∙◌, subst, length}
 use Rattle.std.proofs.Math.Logic.{∥∥₁_elim}
 use Rattle.std.proofs.Props.{props}
 use Rattle.tasks.specs.declared.task.NormalTask.{NormalTask}
@@ -25,8 +25,6 @@ invariant_of-result c =
       members = ∥∥₁_elim tabled (hlevel props) (λ d. d.members);
       counts = ∥∥₁_elim tabled (hlevel props) (counts t o s.table ordered);
       within = ∥∥₁_elim tabled (hlevel props) (within t o s.table ordered);
-      helpers_up = ∥∥₁_elim tabled (hlevel props) (λ d. helpers t o s.table ordered d true);
-      helpers_down = ∥∥₁_elim tabled (hlevel props) (λ d. helpers t o s.table ordered d false);
-      opens_up = ∥∥₁_elim tabled (hlevel props) (λ d. opens t o s.table ordered d true);
-      opens_down = ∥∥₁_elim tabled (hlevel props) (λ d. opens t o s.table ordered d false);
+      helpers = ∥∥₁_elim tabled (hlevel props) (λ d. helpers t o s.table ordered d);
+      opens = ∥∥₁_elim tabled (hlevel props) (λ d. opens t o s.table ordered d);
     }
