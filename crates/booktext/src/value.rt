@@ -50,6 +50,9 @@ fn worth(v: &[u8]) -> Option<u8>
 pub(crate) fn number(v: &[u8], low: u8, high: u8) -> Result<u8, Fault>
     ensures { Means result (numbered low high v.now) (λ n. n) }
 {
+    if v.len() > 3 {
+        return Err(Fault::Value);
+    }
     let n = worth(v).ok_or(Fault::Value)?;
     if n < low || n > high || !is_decimal(n, v) {
         return Err(Fault::Value);

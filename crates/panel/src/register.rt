@@ -46,7 +46,10 @@ impl Panel for Register {
     }
 
     fn throw(&mut self, latch: u8, to: bool) -> bool {
-        self.raised = self.raised.put(latch, to);
-        self.width.has(latch)
+        let within = self.width.has(latch);
+        if within {
+            self.raised = self.raised.put(latch, to);
+        }
+        within
     }
 }

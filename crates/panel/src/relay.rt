@@ -52,7 +52,7 @@ impl Coils {
     {
         Coils {
             last: coil,
-            pulses: self.pulses.saturating_add(1),
+            pulses: self.pulses.saturating_add(1).min(PULSE_LIMIT),
         }
     }
 }

@@ -1,7 +1,9 @@
 -- The table latch by latch: nothing is kept at first, and each latch of the order adds what is kept of it.
-use Rattle.std.proofs.Common.{◌≡◌, ℕ, zero, suc, ◌+◌, ◌^◌, ◌<◌, ◌≤◌, true, ◌≢◌, List, ◌∷◌, length, get_or, set, replicate, is_some, sym, refl, ap, ◌∙◌, subst, subst₂, inl, inr, arith, get_or-set_other, get_or-set_same}
+use Rattle.std.proofs.Common.{◌≡◌, ℕ, zero, suc, ◌+◌, ◌^◌, ◌<◌, ◌≤◌, Bool, true, ◌≢◌, List, ◌∷◌, length, get_or, set, replicate, is_some, sym, refl, ap, ◌∙◌, subst, subst₂, inl, inr, arith, get_or-set_other, get_or-set_same}
 use Rattle.std.proofs.lemmas.Bool.{cases_eq}
-use Rattle.words.specs.Sets.{most_latches}
+use Rattle.words.specs.declared.LatchSet.{LatchSet}
+use Rattle.words.specs.Sets.{most_latches, has, has_put}
+use Rattle.words.proofs.Members.{put_here, put_other}
 use Rattle.theory.specs.Searches.{In}
 use Rattle.theory.specs.Order.{order}
 use Rattle.theory.specs.Recipes.{Kept, kept?, recipe_to, moves_to, Table, table_of}
@@ -17,7 +19,8 @@ use Rattle.planner.specs.RecipesKept.{before, recipe_in, recipe_or, kept_at, kep
 use Rattle.planner.proofs.RecipeLengths.{before_more}
 use Rattle.planner.proofs.OrderFresh.{in_before, order_before}
 
-nothing_kept : (n u : ℕ) → get_or {A = KeptRecipes} (replicate n Neither) u Neither ≡ Neither
+-- where there is no recipe yet, none is found
+pub nothing_kept : (n u : ℕ) → get_or {A = KeptRecipes} (replicate n Neither) u Neither ≡ Neither
 nothing_kept zero u = refl
 nothing_kept (suc n) zero = refl
 nothing_kept (suc n) (suc u) = nothing_kept n u
@@ -36,6 +39,29 @@ none_tabled t latches table e = record {
   where
     none : (u : ℕ) → kept_at table u ≡ Neither
     none u = ap (λ (cs : List KeptRecipes). get_or cs u Neither) e ∙ nothing_kept most_latches u
+
+-- once the recipes of a latch are written, the latches with a kept recipe to 1 are those before, with or without that one
+pub kept_more :
+    (table : RecipeTable) (v : ℕ) (c : KeptRecipes) (s t : LatchSet) → v < most_latches → ((u : ℕ) → has s u ≡ kept_in? true table u) →
+    ((u : ℕ) → has t u ≡ has_put s v (is_some (recipe_in true c)) u) →
+    (u : ℕ) → has t u ≡ is_some (recipe_in true (get_or (set table.kept v c) u Neither))
+kept_more table v c s t l so_far put u =
+    elim (cases_eq u v) [
+      | inl same ↦
+          put u
+          ∙ ap (has_put s v _) same
+          ∙ put_here s v (is_some (recipe_in true c)) l
+          ∙ ap kept
+          (sym (get_or-set_same table.kept v c Neither (omega (arith, table.places))) ∙ ap (λ (w : ℕ). get_or (set table.kept v c) w Neither) (sym same))
+      | inr other ↦
+          put u
+          ∙ put_other s v u (is_some (recipe_in true c)) other
+          ∙ so_far u
+          ∙ ap kept (sym (get_or-set_other table.kept v u c Neither other))
+    ]
+  where
+    kept : KeptRecipes → Bool
+    kept k = is_some (recipe_in true k)
 
 module _ (t : NormalTask) (latches : List ℕ) (k : ℕ) (table : RecipeTable) (so_far : Tabled t latches k (table_of (task_of t) (before latches k)) table)
     (inside : k < length latches) (fresh : In (before latches k) (get_or latches k 0) → ⊥) where

@@ -30,7 +30,7 @@ impl Recipes {
         requires { place < length (order_of self.now.order) }
         ensures { result ≡ recipe_in to (kept_at self.now.table (latch_at self.now.order place)) }
     {
-        self.table.recipe(self.order.latch(place), to)
+        self.table.kept[self.order.latch(place) as usize].recipe(to)
     }
 
     /// How many moves the recipe to `to` of the latch at `place` comes to, 0 if it is not kept.
@@ -38,7 +38,7 @@ impl Recipes {
         requires { place < length (order_of self.now.order) }
         ensures { result ≡ length (recipe_numbers self.now.task to (latch_at self.now.order place)) }
     {
-        self.table.length(self.order.latch(place), to)
+        self.table.kept[self.order.latch(place) as usize].length(to)
     }
 
     /// Seeks place `k` in the recipes to `to` of the helpers among the first `placed` latches. If it is behind them all, the answer is the

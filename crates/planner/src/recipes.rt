@@ -10,7 +10,7 @@ ghost use Rattle.theory.specs.Recipes.{Table, serves?};
 ghost use Rattle.theory.specs.Route.{no_way?};
 ghost use Rattle.theory.specs.Tasks.{Task};
 ghost use Rattle.tasks.specs.Tasks.{move_of, task_of};
-ghost use Rattle.planner.specs.RecipesKept.{Splits, KeepsOne, Helps, kept_at, kept_in?, kept_of, recipe_at, recipe_in};
+ghost use Rattle.planner.specs.RecipesKept.{Splits, KeepsOne, Helps, kept_at, kept_in?, kept_of, recipe_at, recipe_in, recipe_or};
 
 use crate::order::in_order;
 use book::MOST_LATCHES;
@@ -19,7 +19,7 @@ use making::Making;
 pub(crate) use recipe::Recipe;
 use recipe_table::{Kept, RecipeTable};
 use tasks::{NormalMove, NormalTask};
-use words::LatchSet;
+use words::{LatchSet, Test};
 
 /// Whether `m` throws `latch` to `to` and each other latch that it asks at 1 is one of `kept`, those with a kept recipe to 1.
 fn serves(kept: LatchSet, latch: u8, to: bool, m: NormalMove) -> bool
@@ -49,7 +49,7 @@ impl Kept {
     }
 
     /// The recipe to `to`, if it is kept.
-    fn recipe(self, to: bool) -> Option<Recipe>
+    pub(crate) fn recipe(self, to: bool) -> Option<Recipe>
         ensures { result ≡ recipe_in to self }
     {
         match self {
@@ -57,6 +57,33 @@ impl Kept {
             Kept::One(up) => to.then_some(up),
             Kept::Both(up, down) => Some(if to { up } else { down }),
         }
+    }
+
+    /// How many moves the recipe to `to` comes to, 0 if it is not kept.
+    pub(crate) fn length(&self, to: bool) -> u64
+        ensures { result ≡ (recipe_or to self.now).length }
+    {
+        match self {
+            Kept::One(up) if to => up.length,
+            Kept::Both(up, _) if to => up.length,
+            Kept::Both(_, down) => down.length,
+            _ => 0,
+        }
+    }
+}
+
+/// Whether the recipe of a latch to `to` is kept in a table.
+#[derive(Clone, Copy)]
+struct HasRecipe<'a> {
+    table: &'a RecipeTable,
+    to: bool,
+}
+
+impl<'a> Test for HasRecipe<'a> {
+    ghost passing = { λ h u. kept_in? h.to h.table.now u };
+
+    fn passes(&self, latch: u8) -> bool {
+        self.table.recipe(latch, self.to).is_some()
     }
 }
 
@@ -72,14 +99,16 @@ impl RecipeTable {
     pub(crate) fn length(&self, latch: u8, to: bool) -> u64
         ensures { result ≡ (recipe_at to self.now latch).length }
     {
-        self.recipe(latch, to).map_or(0, |recipe| recipe.length)
+        self.kept
+            .get(latch as usize)
+            .map_or(0, |kept| kept.length(to))
     }
 
     /// The latches whose recipe to `to` is kept.
     pub(crate) fn kept_to(&self, to: bool) -> LatchSet
         ensures { (u : ℕ) → has result u ≡ kept_in? to self.now u }
     {
-        LatchSet::from_fn(MOST_LATCHES as u8, |latch| self.recipe(latch, to).is_some())
+        LatchSet::from_fn(MOST_LATCHES as u8, &HasRecipe { table: self, to })
     }
 }
 

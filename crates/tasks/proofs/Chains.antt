@@ -2,12 +2,10 @@
 use Rattle.std.proofs.Common.{◌≡◌, ℕ, zero, suc, ◌+◌, ◌<◌, Bool, true, false, ◌&&◌, ◌||◌, eqb, ltb, List, [], ◌∷◌, ◌++◌, map, length, MatchBool, add-one, sym, refl, ap, ◌∙◌, inl, inr, arith}
 use denote.Param.Members.{Mut}
 use denote.Ref.{Bor}
-use Rattle.std.specs.Fn.{Called, CalledAt}
+use Rattle.std.specs.Fn.{Called}
 use Rattle.std.specs.Iterator.{ChecksAll, ChecksAny, FoldsItems}
-use Rattle.std.specs.List.{HoldsAt, AllWithin, filter, list_all, range_with_len}
-use Rattle.std.specs.Iterator.Adapters.{filter_source, filter_callee, filter_steps}
+use Rattle.std.specs.List.{HoldsAt, AllWithin, list_all, range_with_len}
 use Rattle.std.specs.Slice.Iter.{iter_rest}
-use Rattle.std.specs.declared.iter.Filter.{Filter}
 use Rattle.std.specs.declared.ops.Range.{Range}
 use Rattle.std.specs.declared.slice.Iter.{Iter}
 use Rattle.std.proofs.iter.Yields.{fronts, nat_range_steps}
@@ -15,7 +13,6 @@ use Rattle.std.proofs.lemmas.Bool.{and_from, and_left, and_right, or_from, or_le
 use Rattle.std.proofs.lemmas.Bool.Decides.{nat_tests}
 use Rattle.std.proofs.lemmas.Fn.{fold_same}
 use Rattle.std.proofs.lemmas.Iterator.{YieldsList-from_slice, YieldsList-from_range, items_from_drains, cases_from_all, cases_from_any}
-use Rattle.std.proofs.lemmas.Iterator.Consumers.{YieldsList-from_filter}
 use Rattle.std.proofs.lemmas.Iterator.Search.{all_from_yields_List}
 use Rattle.std.proofs.lemmas.List.{map_push}
 use Rattle.std.proofs.lemmas.List.FromFn.{map-range_with_len_more}
@@ -108,13 +105,13 @@ some_of_push : {A : Type 0} (test : A → Bool) (xs : List A) (x : A) → some_o
 some_of_push test [] x = grind arith
 some_of_push test (y ∷ xs) x = let e = some_of_push test xs x in grind arith
 
--- some element of those that pass
-some_of_filter :
-    {A B : Type 0} (f : A → B) (passes adds : A → Bool) (test : B → Bool) (xs : List A) →
-    ((x : A) → In xs x → (passes x && adds x) ≡ test (f x)) → some_of adds (filter passes xs) ≡ some_of test (map f xs)
-some_of_filter f passes adds test [] h = refl
-some_of_filter f passes adds test (x ∷ xs) h =
-    let e = some_of_filter f passes adds test xs (λ y i. h y (inr i)) in
+-- some element passes its own test
+some_of_map :
+    {A B : Type 0} (f : A → B) (adds : A → Bool) (test : B → Bool) (xs : List A) → ((x : A) → In xs x → adds x ≡ test (f x)) →
+    some_of adds xs ≡ some_of test (map f xs)
+some_of_map f adds test [] h = refl
+some_of_map f adds test (x ∷ xs) h =
+    let e = some_of_map f adds test xs (λ y i. h y (inr i)) in
     let here = h x (inl refl) in
     grind arith
 
@@ -122,21 +119,19 @@ some_of_filter f passes adds test (x ∷ xs) h =
 abbrev Gathered : (NormalMove → ℕ → Bool) → List (Bor NormalMove) → LatchSet → Type 0
 Gathered adds xs a = (u : ℕ) → has a u ≡ some_of (λ m. adds m u) (map (λ x. x.now) xs)
 
--- a set that is gathered from the moves of a task that pass
+-- a set that is gathered from the moves of a task
 module _
-    {F G : Type 0} {h : Mut F (Bor (Bor NormalMove) × Unit {0}) Bool} {g : Mut G (LatchSet × (Bor NormalMove × Unit {0})) LatchSet}
-    {s : Filter (Iter NormalMove) F} {f : F} {k : G} {r : LatchSet}
-    (t : NormalTask) (passes : NormalMove → Bool) (adds : NormalMove → ℕ → Bool) (test : ℕ → Move → Bool)
-    (says : (u : ℕ) (m : NormalMove) → InTask t m → (passes m && adds m u) ≡ test u (move_of m)) where
+    {G : Type 0} {g : Mut G (LatchSet × (Bor NormalMove × Unit {0})) LatchSet} {s : Iter NormalMove} {k : G} {r : LatchSet}
+    (t : NormalTask) (adds : NormalMove → ℕ → Bool) (test : ℕ → Move → Bool)
+    (says : (u : ℕ) (m : NormalMove) → InTask t m → adds m u ≡ test u (move_of m)) where
   pub gathered :
-      iter_rest (filter_source s) ≡ items t.moves → filter_callee s ≡ f →
-      ((x : Bor NormalMove) (b : Bool) (q : F) → CalledAt h f x b q → (q ≡ f) × (b ≡ passes x.now)) →
+      iter_rest s ≡ items t.moves →
       ((a : LatchSet) (x : Bor NormalMove) (b : LatchSet) (q : G) → Called g k (a, (x, tt)) b q → ((u : ℕ) → has b u ≡ (has a u || adds x.now u)) × (q ≡ k)) →
-      FoldsItems (filter_steps fronts h) g s k no_latch r → (u : ℕ) → has r u ≡ some_of (test u) (moves_of t)
-  gathered all by filters adds_all (xs, q, (v, (w, yields, stops)), folds) u =
+      FoldsItems fronts g s k no_latch r → (u : ℕ) → has r u ≡ some_of (test u) (moves_of t)
+  gathered all adds_all (xs, q, (v, (w, yields, stops)), folds) u =
       fold_same g (Gathered adds) k one_more xs no_latch r q no_member folds u
-      ∙ ap (some_of (λ m. adds m u)) (items_from_drains xs (w, yields, λ _. (v, stops)) (YieldsList-from_filter h passes (YieldsList-from_slice (items t.moves) all) by filters))
-      ∙ some_of_filter move_of passes (λ m. adds m u) (test u) (items t.moves) (λ m i. says u m (in_map move_of (items t.moves) m i))
+      ∙ ap (some_of (λ m. adds m u)) (items_from_drains xs (w, yields, λ _. (v, stops)) (YieldsList-from_slice (items t.moves) all))
+      ∙ some_of_map move_of (λ m. adds m u) (test u) (items t.moves) (λ m i. says u m (in_map move_of (items t.moves) m i))
     where
       one_more :
           (ys : List (Bor NormalMove)) (a : LatchSet) (x : Bor NormalMove) (b : LatchSet) (q : G) → Gathered adds ys a → Called g k (a, (x, tt)) b q →

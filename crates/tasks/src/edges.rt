@@ -27,8 +27,13 @@ impl NormalTask {
     {
         self.moves()
             .iter()
-            .filter(|m| m.latch == latch)
-            .fold(LatchSet::EMPTY, |found, m| found.union(m.asks.named))
+            .fold(LatchSet::EMPTY, |found, m| {
+                if m.latch == latch {
+                    found.union(m.asks.named)
+                } else {
+                    found
+                }
+            })
             .without(latch)
     }
 
@@ -40,8 +45,13 @@ impl NormalTask {
     {
         self.moves()
             .iter()
-            .filter(|m| passes(m))
-            .fold(LatchSet::EMPTY, |found, m| found.with(m.latch))
+            .fold(LatchSet::EMPTY, |found, m| {
+                if passes(m) {
+                    found.with(m.latch)
+                } else {
+                    found
+                }
+            })
             .without(latch)
     }
 

@@ -12,7 +12,7 @@ use crate::task::{NormalMove, NormalTask};
 use book::{Book, Errand, Move, PartialSetting};
 use rules::in_normal_form;
 use tables::Table;
-use words::{LatchSet, MOST_LATCHES};
+use words::{LatchSet, MOST_LATCHES, Test};
 
 /// An empty place for a move.
 const NO_MOVE: NormalMove = NormalMove {
@@ -29,11 +29,26 @@ fn asks_one(asked: PartialSetting, start: LatchSet, latch: u8) -> bool
     asked.named.contains(latch) && in_normal_form(asked.ones.contains(latch), start.contains(latch))
 }
 
+/// The latches that are asked to be at 1 in normal form.
+#[derive(Clone, Copy)]
+struct AsksOne {
+    asked: PartialSetting,
+    start: LatchSet,
+}
+
+impl Test for AsksOne {
+    ghost passing = { λ t u. has t.asked.named u && exchanged (has t.asked.ones u) (has t.start u) };
+
+    fn passes(&self, latch: u8) -> bool {
+        asks_one(self.asked, self.start, latch)
+    }
+}
+
 /// Each condition in normal form.
 fn normal_asks(asked: PartialSetting, start: LatchSet) -> PartialSetting
     ensures { (u : ℕ) → asks_of result u ≡ exchanged_ask (asks_of asked u) (has start u) }
 {
-    let ones = LatchSet::from_fn(MOST_LATCHES, |latch| asks_one(asked, start, latch));
+    let ones = LatchSet::from_fn(MOST_LATCHES, &AsksOne { asked, start });
     PartialSetting {
         named: asked.named,
         ones,

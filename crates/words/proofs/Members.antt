@@ -1,5 +1,5 @@
 -- Sets by their members: what the operations on words do to each latch.
-use Rattle.std.proofs.Common.{◌≡◌, ℕ, zero, suc, ◌+◌, ◌-◌, ◌*◌, ◌/◌, ◌%◌, ◌^◌, ◌<◌, ◌≤◌, min, max, Bool, true, false, not, ◌&&◌, ◌||◌, eqb, ltb, ◌⊎◌, Decides, sym, ap, ◌∙◌, inl, inr, ⊎_elim, div-lt_iff_lt-mul, arith, pow_pos, shr-shr}
+use Rattle.std.proofs.Common.{◌≡◌, ℕ, zero, suc, ◌+◌, ◌-◌, ◌*◌, ◌/◌, ◌%◌, ◌^◌, ◌<◌, ◌≤◌, min, max, Bool, true, false, not, ◌&&◌, ◌||◌, eqb, ltb, ◌⊎◌, Decides, ◌≢◌, sym, ap, ◌∙◌, inl, inr, ⊎_elim, div-lt_iff_lt-mul, arith, pow_pos, shr-shr}
 use base.Stored.{Coded, coded_ℕ, coded_via}
 use lib.Arith.{half_le}
 use lib.Bits.{bit_and, bit_or}
@@ -12,7 +12,7 @@ use Rattle.std.proofs.lemmas.Nat.{one_shl}
 use Rattle.std.proofs.lemmas.Nat.Bits.{bit_at-lt, bit_at-suc, bit_at-zero, bit_at_above, bit_at_and, bit_at_or, bit_at_not, bit_at-pow_same, bit_at-pow_other, same_from_bits}
 use Rattle.words.specs.declared.LatchSet.{LatchSet}
 use Rattle.words.specs.Bit.{bit, set?, AllClear, AllClearFrom}
-use Rattle.words.specs.Sets.{most_latches, no_latch, has, has_with, Empty, Below}
+use Rattle.words.specs.Sets.{most_latches, no_latch, has, has_with, has_put, Empty, Below}
 
 -- a bit that is not set is clear
 pub absent_bit : (w j : ℕ) → set? w j ≡ false → bit w j ≡ 0
@@ -142,6 +142,14 @@ with_has s i l = grind (arith, nat_tests)
 pub with_cases : (s : LatchSet) (i j : ℕ) → has_with s i j ≡ true → (has s j ≡ true) ⊎ (j ≡ i)
 with_cases s i j h =
     ⊎_elim inl (λ e. inr (eqb-true j i (and_parts (eqb j i) (ltb i most_latches) e).0)) (or_cases (has s j) _ h)
+
+-- a latch that is put in or taken out stands as it was put, if there can be such a latch
+pub put_here : (s : LatchSet) (i : ℕ) (b : Bool) → i < most_latches → has_put s i b i ≡ b
+put_here s i b l = grind (arith, nat_tests)
+
+-- and every other stays
+pub put_other : (s : LatchSet) (i j : ℕ) (b : Bool) → j ≢ i → has_put s i b j ≡ has s j
+put_other s i j b ne = grind (arith, nat_tests)
 
 -- a set of latches below 32 is a word of 32 bits
 pub below_small : (s : LatchSet) → Below most_latches s → s.word < 2 ^ 32

@@ -2,6 +2,7 @@
 --   most_latches      how many latches there can be
 --   no_latch          the set with no latch
 --   has s i           latch i is in s
+--   has_passed n p i  latch i is one of the first n, there can be such a latch, and it passes the test p
 --   has_with s i      the members of s and, if there can be such a latch, latch i
 --   has_without s i   the members of s but latch i
 --   has_put s i b     the one if b, else the other
@@ -26,6 +27,10 @@ no_latch = record { word = 0 }
 -- latch i is in the set
 abbrev pub has : LatchSet → ℕ → Bool
 has s i = set? s.word i
+
+-- latch j is one of the first n, there can be such a latch, and it passes the test
+abbrev pub has_passed : ℕ → (ℕ → Bool) → ℕ → Bool
+has_passed n p j = (nat_lt j n && nat_lt j most_latches) && p j
 
 -- latch j is in the set with latch i; no set has a latch beyond the most
 abbrev pub has_with : LatchSet → ℕ → ℕ → Bool

@@ -1,8 +1,8 @@
 //! Sets of latches 0 to 31, each set one 32-bit word.
 #![tactic(auto)]
 
-ghost use Rattle.std.specs.Prelude.{◌≡◌, ℕ, ◌<◌, ◌≤◌, false, Decides};
-ghost use Rattle.words.specs.Sets.{most_latches, has, has_with, has_without, has_put, has_either, has_both, has_minus, Empty, Below, Lowest};
+ghost use Rattle.std.specs.Prelude.{◌≡◌, ℕ, Bool, Decides};
+ghost use Rattle.words.specs.Sets.{has, has_passed, has_with, has_without, has_put, has_either, has_both, has_minus, Empty, Below, Lowest};
 
 /// How many latches there can be.
 pub const MOST_LATCHES: u8 = 32;
@@ -31,19 +31,29 @@ impl From<LatchSet> for u32 {
     }
 }
 
+/// A test on latches.
+pub trait Test {
+    // The latch passes.
+    ghost passing: { Self → ℕ → Bool };
+
+    /// Whether the latch passes.
+    fn passes(&self, latch: u8) -> bool
+        ensures { result ≡ passing self.now latch };
+}
+
 impl LatchSet {
     /// The set with no latch.
     pub const EMPTY: LatchSet = LatchSet { word: 0 };
 
-    /// The latches below `n` at which the test is true.
-    pub fn from_fn<F: Fn(u8) -> bool>(n: u8, test: F) -> LatchSet
-        requires { (j : ℕ) → j < n → j < most_latches → F.pre test j }
-        ensures tested { (j : ℕ) → j < n → j < most_latches → F.post test j (has result j) }
-        ensures none { (j : ℕ) → n ≤ j → has result j ≡ false }
+    /// The latches below `n` that pass the test.
+    pub fn from_fn<T: Test>(n: u8, test: &T) -> LatchSet
+        ensures { (j : ℕ) → has result j ≡ has_passed n (T.passing test.now) j }
     {
         let mut set = LatchSet::EMPTY;
         for latch in 0..n.min(MOST_LATCHES) {
-            set = set.put(latch, test(latch));
+            if test.passes(latch) {
+                set = set.with(latch);
+            }
         }
         set
     }

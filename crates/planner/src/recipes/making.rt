@@ -1,11 +1,13 @@
 //! Recipes under way: they are made latch by latch, along the order.
-ghost use Rattle.std.specs.Prelude.{◌≡◌, ℕ, ◌+◌, ◌^◌, ◌<◌, ◌≤◌, length as length_of};
+ghost use Rattle.std.specs.Prelude.{◌≡◌, ℕ, ◌+◌, ◌^◌, ◌<◌, ◌≤◌, true, length as length_of};
+ghost use Rattle.words.specs.Sets.{has};
+ghost use Rattle.theory.specs.Class.{splitting?};
 ghost use Rattle.theory.specs.Recipes.{recipe_parts, opened};
 ghost use Rattle.theory.specs.Tasks.{Move};
 ghost use Rattle.tasks.specs.Tasks.{task_of};
 ghost use Rattle.planner.specs.Made.{Orders};
 ghost use Rattle.planner.specs.Orders.{order_of};
-ghost use Rattle.planner.specs.RecipesKept.{Splits, Helps, Chosen, Tabled, before, kept_behind};
+ghost use Rattle.planner.specs.RecipesKept.{Splits, Helps, Chosen, Tabled, before, kept_behind, kept_in?};
 
 use crate::order::Order;
 use crate::recipes::recipe::Recipe;
@@ -13,20 +15,36 @@ use crate::recipes::recipe_table::{Kept, RecipeTable};
 use crate::recipes::{helpers, serves};
 use book::MOST_LATCHES;
 use tasks::{NormalTask, is_asked};
-use words::LatchSet;
+use words::{LatchSet, Test};
 
-/// Recipes under way: what is kept of the first `placed` latches of the order.
+/// Recipes under way: what is kept of the first `placed` latches of the order, and which of them have a kept recipe to 1.
 #[derive(Clone, Copy)]
 pub(crate) struct Making<'a> {
     pub(crate) task: &'a NormalTask,
     pub(crate) order: &'a Order,
     pub(crate) splitting: LatchSet,
     pub(crate) placed: u8,
+    pub(crate) ones: LatchSet,
     pub(crate) table: RecipeTable,
     ghost orders: { Orders task.now order.now },
     ghost splits: { Splits (task_of task.now) splitting },
     ghost room: { placed ≤ length_of (order_of order.now) },
+    ghost kept_ones: { (u : ℕ) → has ones u ≡ kept_in? true table u },
     ghost tabled: { ∥ Tabled task.now (order_of order.now) placed (kept_behind task.now order.now placed) table ∥₁ },
+}
+
+/// Which latches of a task are splitting.
+#[derive(Clone, Copy)]
+struct Splitting<'a> {
+    task: &'a NormalTask,
+}
+
+impl<'a> Test for Splitting<'a> {
+    ghost passing = { λ s v. splitting? (task_of s.task.now) v };
+
+    fn passes(&self, latch: u8) -> bool {
+        self.task.is_splitting(latch)
+    }
 }
 
 impl<'a> Making<'a> {
@@ -36,12 +54,12 @@ impl<'a> Making<'a> {
         ensures task { result.task.now ≡ task.now }
         ensures order { result.order.now ≡ order.now }
     {
-        let splitting = LatchSet::from_fn(task.width, |latch| task.is_splitting(latch));
         Making {
             task,
             order,
-            splitting,
+            splitting: LatchSet::from_fn(task.width, &Splitting { task }),
             placed: 0,
+            ones: LatchSet::EMPTY,
             table: RecipeTable {
                 kept: [Kept::Neither; MOST_LATCHES],
             },
@@ -69,9 +87,8 @@ impl<'a> Making<'a> {
         ensures { Chosen self.now.task.now (kept_behind self.now.task.now self.now.order.now self.now.placed) latch
             (before (order_of self.now.order.now) self.now.placed) to (3 ^ self.now.placed) result }
     {
-        let ones = self.table.kept_to(true);
         for (place, m) in self.task.moves().iter().enumerate() {
-            if serves(ones, latch, to, *m) {
+            if serves(self.ones, latch, to, *m) {
                 let helpers = helpers(self.splitting, latch, *m);
                 let length = self.length(helpers);
                 return Some(Recipe {
@@ -94,9 +111,11 @@ impl<'a> Making<'a> {
         let latch = self.order.latch(self.placed);
         let one = self.recipe(latch, true);
         let zero = self.recipe(latch, false);
+        let kept = Kept::of(one, zero, is_asked(self.task.want, false, latch));
         let mut table = self.table;
-        table.kept[latch as usize] = Kept::of(one, zero, is_asked(self.task.want, false, latch));
+        table.kept[latch as usize] = kept;
         self.table = table;
+        self.ones = self.ones.put(latch, kept.recipe(true).is_some());
         self.placed += 1;
     }
 

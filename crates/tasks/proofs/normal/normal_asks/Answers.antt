@@ -1,5 +1,6 @@
-use Rattle.std.proofs.Common.{◌≡◌, ℕ, sym, ◌∙◌, inl, inr, arith, rules}
-use Rattle.std.proofs.lemmas.Bool.{cases_lt, and_left, false_from_ne_true}
+use Rattle.std.proofs.Common.{◌≡◌, ℕ, inl, inr, arith}
+use Rattle.std.proofs.lemmas.Bool.{cases_lt, false_from_ne_true}
+use Rattle.std.proofs.lemmas.Bool.Decides.{nat_tests}
 use Rattle.words.specs.Sets.{most_latches, has}
 use Rattle.words.proofs.Members.{below_all}
 use Rattle.tasks.proofs.NormalFormAsks.{normal_one, ones_named, asks_normal}
@@ -9,11 +10,12 @@ use Rattle.tasks.proofs.normal.normal_asks.Goals.{After-from_fn-ones}
 -- the latches at 1 in normal form are in the set, and no others
 one : (c : After-from_fn-ones) (u : ℕ) → has c.from_fn-ones.result u ≡ normal_one c.args.asked c.args.start u
 one c u =
+    let e = c.from_fn-ones.ensures u in
     elim (cases_lt u most_latches) [
-      | inl l ↦ let e = c.from_fn-ones.ensures.tested u l l in search rules
+      | inl l ↦ grind (arith, nat_tests, e)
       | inr g ↦
           let unnamed = false_from_ne_true (has c.args.asked.named u) (λ h. omega (arith, below_all c.args.asked.named.word most_latches (omega arith) (omega arith) u h)) in
-          c.from_fn-ones.ensures.none u g ∙ sym (and_left (has c.args.asked.named u) _ unnamed)
+          grind (arith, nat_tests, e)
     ]
 
 pub invariant_of-result : goal.invariant_of-result

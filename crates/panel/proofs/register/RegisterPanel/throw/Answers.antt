@@ -4,8 +4,8 @@ use Rattle.panel.proofs.Rows.{set_row}
 use Rattle.panel.proofs.Switched.{put_here, put_other}
 use Rattle.panel.proofs.register.RegisterPanel.throw.Goals as goal
 
-pub returns-clause-panel : goal.returns-clause-panel
-returns-clause-panel c =
+pub returns-then-within-clause-panel : goal.returns-then-within-clause-panel
+returns-then-within-clause-panel c =
     let p = c.args.self.now in
     set_row p.width.count c.args.latch (has p.raised) (has c.put-self.result) c.args.to
     (λ l. c.put-self.ensures c.args.latch ∙ put_here p.raised c.args.latch c.args.to (omega arith))

@@ -10,7 +10,6 @@ pub returns : goal.returns
 unfolding edge?
 returns c u =
     let t = c.args.self.now in
-    let h = gathered t (λ m. eqb m.latch c.args.latch) (λ m u. has m.asks.named u) (λ u m. eqb m.latch c.args.latch && asked? (m.asks u))
-    (λ u m i. ap (λ b. eqb m.latch c.args.latch && b) (sym (asked_is_named m.asks u))) (cc) c.filter.ensures.closure (λ x b q k. search (rules, tests))
-    (λ a x b q k. search (rules, tests)) c.fold.ensures.ran u in
+    let h = gathered t (λ m u. eqb m.latch c.args.latch && has m.asks.named u) (λ u m. eqb m.latch c.args.latch && asked? (m.asks u))
+    (λ u m i. ap (λ b. eqb m.latch c.args.latch && b) (sym (asked_is_named m.asks u))) (cc) (λ a x b q k. search (rules, tests)) c.fold.ensures.ran u in
     grind (arith, c.without.ensures u, h)

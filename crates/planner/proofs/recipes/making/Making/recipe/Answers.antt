@@ -16,10 +16,10 @@ here : (c : After-m-item) → (c.loop-place.place < length (items c.args.self.no
 here c = move_read c.args.self.now.task.now c.moves-m-items.result.now c.loop-place.place c.m-item.result c.moves-m-items.ensures.list c.loop-place-test.true c.m-item.is
 
 -- the latches with a kept recipe to 1
-ones : (c : After-m-item) → KeepsOne c.kept_to-ones.result (kept_behind c.args.self.now.task.now c.args.self.now.order.now c.args.self.now.placed)
+ones : (c : After-m-item) → KeepsOne c.args.self.now.ones (kept_behind c.args.self.now.task.now c.args.self.now.order.now c.args.self.now.placed)
 ones c =
     let s = c.args.self.now in
-    λ u. c.kept_to-ones.ensures u ∙ members_of s.task.now s.order.now s.placed s.table s.tabled true u
+    λ u. s.kept_ones u ∙ members_of s.task.now s.order.now s.placed s.table s.tabled true u
 
 pub returns-then-serves : goal.returns-then-serves
 returns-then-serves c =
