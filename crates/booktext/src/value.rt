@@ -50,6 +50,7 @@ fn worth(v: &[u8]) -> Option<u8>
 pub(crate) fn number(v: &[u8], low: u8, high: u8) -> Result<u8, Fault>
     ensures { Means result (numbered low high v.now) (λ n. n) }
 {
+    // A number has three digits at most, so a long line is not gone through.
     if v.len() > 3 {
         return Err(Fault::Value);
     }

@@ -1,6 +1,6 @@
 pub mod Rows
 pub mod Switched
 pub mod Masks
-mod Looks
 mod Filled
+mod Fronts
 mod Pulses

@@ -59,13 +59,12 @@ impl Kept {
         }
     }
 
-    /// How many moves the recipe to `to` comes to, 0 if it is not kept.
+    /// How many moves the recipe to `to` comes to, 0 if it is not kept. A look-up asks it of helper after helper, so no recipe is copied.
     pub(crate) fn length(&self, to: bool) -> u64
         ensures { result ≡ (recipe_or to self.now).length }
     {
         match self {
-            Kept::One(up) if to => up.length,
-            Kept::Both(up, _) if to => up.length,
+            Kept::One(up) | Kept::Both(up, _) if to => up.length,
             Kept::Both(_, down) => down.length,
             _ => 0,
         }

@@ -17,6 +17,20 @@ use book::MOST_LATCHES;
 use tasks::{NormalTask, is_asked};
 use words::{LatchSet, Test};
 
+/// Which latches of a task are splitting.
+#[derive(Clone, Copy)]
+struct Splitting<'a> {
+    task: &'a NormalTask,
+}
+
+impl<'a> Test for Splitting<'a> {
+    ghost passing = { λ s v. splitting? (task_of s.task.now) v };
+
+    fn passes(&self, latch: u8) -> bool {
+        self.task.is_splitting(latch)
+    }
+}
+
 /// Recipes under way: what is kept of the first `placed` latches of the order, and which of them have a kept recipe to 1.
 #[derive(Clone, Copy)]
 pub(crate) struct Making<'a> {
@@ -31,20 +45,6 @@ pub(crate) struct Making<'a> {
     ghost room: { placed ≤ length_of (order_of order.now) },
     ghost kept_ones: { (u : ℕ) → has ones u ≡ kept_in? true table u },
     ghost tabled: { ∥ Tabled task.now (order_of order.now) placed (kept_behind task.now order.now placed) table ∥₁ },
-}
-
-/// Which latches of a task are splitting.
-#[derive(Clone, Copy)]
-struct Splitting<'a> {
-    task: &'a NormalTask,
-}
-
-impl<'a> Test for Splitting<'a> {
-    ghost passing = { λ s v. splitting? (task_of s.task.now) v };
-
-    fn passes(&self, latch: u8) -> bool {
-        self.task.is_splitting(latch)
-    }
 }
 
 impl<'a> Making<'a> {
